@@ -1,0 +1,14 @@
+pub mod Choice
+pub mod Lines
+pub mod Cells
+pub mod Tags
+pub mod Operations
+pub mod Settings
+pub mod Addresses
+pub mod Reasons
+pub mod PortTests
+pub mod Arrival
+pub mod Arguments
+pub mod Counters
+pub mod Refusals
+pub mod Cases
