@@ -12,3 +12,6 @@ pub mod Arguments
 pub mod Counters
 pub mod Refusals
 pub mod Cases
+pub mod LineTheorems
+pub mod TagTheorems
+pub mod LeavingTheorems
