@@ -6,3 +6,5 @@ pub mod TakeOut
 pub mod SettingCalls
 pub mod Machine
 pub mod History
+pub mod Demands
+pub mod CallTheorems
