@@ -79,6 +79,16 @@ module _ {A : Type 0} where
   each-front [] ys h = nobody
   each-front (x ∷ xs) ys (also h t) = also h (each-front xs ys t)
 
+  pub each-back : {P : A → Type 0} (xs ys : List A) → Each P (xs ++ ys) → Each P ys
+  each-back [] ys h = h
+  each-back (x ∷ xs) ys (also h t) = each-back xs ys t
+
+  pub each-first : {P : A → Type 0} {x : A} {xs : List A} → Each P (x ∷ xs) → P x
+  each-first (also h t) = h
+
+  pub each-rest : {P : A → Type 0} {x : A} {xs : List A} → Each P (x ∷ xs) → Each P xs
+  each-rest (also h t) = t
+
   pub each-map : {P Q : A → Type 0} {xs : List A} → ((a : A) → P a → Q a) → Each P xs → Each Q xs
   each-map f nobody = nobody
   each-map f (also {a} h t) = also (f a h) (each-map f t)

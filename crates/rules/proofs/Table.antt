@@ -16,7 +16,7 @@ or-true : (b : Bool) → (b || true) ≡ true
 or-true true = refl
 or-true false = refl
 
-no-some : {A : Type 0} {C : Type 0} {a : A} {o : Option A} → o ≡ none → o ≡ some a → C
+pub no-some : {A : Type 0} {C : Type 0} {a : A} {o : Option A} → o ≡ none → o ≡ some a → C
 no-some h k = absurd (let z : _≡_ {A = ℕ} 0 1 = cc in omega arith)
 
 onFound {ℓ} : {C : Type ℓ} (r : Found) → (r ≡ nowhere → C) → ((i : ℕ) (e : Entry) → r ≡ at i e → C) → C

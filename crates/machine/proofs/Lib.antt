@@ -1,0 +1,11 @@
+-- The proofs of the theorems about the machine.
+mod Steps
+mod Waits
+mod Queues
+mod Counters
+mod Room
+mod Bytes
+mod Addresses
+mod Settings
+pub mod Demands
+pub mod Calls
