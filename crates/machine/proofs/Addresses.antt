@@ -1,10 +1,8 @@
 -- After every history a key has at most one address entry, where the search finds it. Assumes nothing.
 use Prim.Native.Nat.{ℕ}
-use mathlib.Core.Path.{_≡_, refl}
-use mathlib.Core.Bool.{Bool, true, false}
+use mathlib.Core.Path.{refl}
 use mathlib.Core.List.{List, [], _∷_}
 use mathlib.Core.Option.{Option, none, some}
-use Rattle.rules.specs.Choice.{if_then_else_}
 use Rattle.rules.specs.Lines.{first}
 use Rattle.rules.specs.Tags.{isGroup, destination, source}
 use Rattle.rules.specs.Settings.{Settings}

@@ -1,15 +1,15 @@
 -- Whatever a history queues, sends or drains, a frame-in of that history brought; and a take writes the bytes it came with, retagged.
 -- Assumes nothing.
-use Prim.Native.Nat.{ℕ, zero, suc, _+_, _≤_}
-use mathlib.Core.Path.{_≡_, refl, sym, ap, _∙_, subst}
-use mathlib.Core.Bool.{Bool, true, false, _&&_}
-use mathlib.Core.List.{List, [], _∷_, _++_, List·Memᴰ, List·Memᴰ·head, List·Memᴰ·tail}
+use Prim.Native.Nat.{ℕ, _≤_}
+use mathlib.Core.Path.{_≡_, sym, ap, _∙_}
+use mathlib.Core.Bool.{_&&_}
+use mathlib.Core.List.{List, [], _∷_, _++_, List·Memᴰ·head, List·Memᴰ·tail}
 use mathlib.Core.Option.{Option, none, some}
 use native.Mathlib.Omega.{arith}
 use lib.Dec.{eqb}
 use lib.ListN.{length}
 use lib.ListN as ListN
-use Rattle.rules.specs.Choice.{if_then_else_, Each, nobody, also}
+use Rattle.rules.specs.Choice.{Each, nobody, also}
 use Rattle.rules.specs.Lines.{first}
 use Rattle.rules.specs.Reasons.{Reason}
 use Rattle.rules.specs.PortTests.{portsLeft}
@@ -18,7 +18,7 @@ use Rattle.rules.specs.ArrivalTheorems.{OfferHas}
 use Rattle.rules.proofs.Choice.{on, onOption, each-append, each-back, each-first, each-map}
 use Rattle.rules.proofs.Arrival.{carries}
 use Rattle.machine.specs.Waiting.{portAt, queueAt}
-use Rattle.machine.specs.Events.{Event, here, in-by, putIn, takenOut}
+use Rattle.machine.specs.Events.{here, in-by, putIn, takenOut}
 use Rattle.machine.specs.State.{State, Call, frameIn, take, age, counter, port, vlan, clearVlan, static, remove, map, queueSwitch, drain, bpdu, refused, done}
 use Rattle.machine.specs.FrameIn.{lessonEvents, roomRules, outcomeBy, outcomeOf, fateEvents, queuedAt, outcomeEvents, entered, frameInStep}
 use Rattle.machine.specs.TakeOut.{leavingBytes, served, taken, takeStep, drainStep}
@@ -98,7 +98,7 @@ waiting-came n cs p q =
 
 taken-says : (s : State) (cs : List Call) (p room x y : ℕ) (out : List ℕ) → ((q : ℕ) → Each (Came cs) (queueAt p q (s .core .waiting)))
     → perform s (take p room) .answer ≡ done x y out → 1 ≤ x → Left s cs p x y out
-unfolding perform unlessRefused act takeStep taken refusing
+unfolding perform unlessRefused act takeStep taken refusing leavingBytes
 taken-says s cs p room x y out came h some-bytes =
     onOption (first (linesOf s (take p room)))
     (λ e. onOption (served s p)

@@ -1,22 +1,21 @@
 -- Each counter is the history's count, modulo 2^32; and at each port counter 0 is the sum of counters 1 to 14.
 -- Assumes nothing.
-use Prim.Native.Nat.{ℕ, zero, suc, _+_, _-_, _*_, _%_, _^_, _≤_, _<_}
-use mathlib.Core.Path.{_≡_, refl, sym, ap, _∙_, subst}
-use mathlib.Core.Bool.{Bool, true, false, _||_, _&&_, not}
+use Prim.Native.Nat.{ℕ, _+_, _%_, _^_, _<_}
+use mathlib.Core.Path.{_≡_, refl, sym, ap, _∙_}
+use mathlib.Core.Bool.{Bool, true, false}
 use mathlib.Core.List.{List, [], _∷_, _++_}
 use mathlib.Core.List as Lists
-use mathlib.Core.Option.{Option, none, some}
 use native.Mathlib.Omega.{arith}
 use lib.Dec.{eqb, lit<}
 use Rattle.rules.specs.Choice.{if_then_else_}
 use Rattle.rules.specs.Reasons.{Reason, short, long, groupSource, tagCount, portBlocking, portListening, vid4095, noVlan, noMember, portLearning, noCandidate, noPortLeft, noRoom, reasonNumber}
 use Rattle.rules.specs.PortTests.{Test, passes, notMember, arrival, elsewhere, state, queueOff, allPorts}
-use Rattle.rules.specs.Arrival.{Frame, Fate, drop, offer, Verdict, decide}
+use Rattle.rules.specs.Arrival.{Frame, Fate, drop, offer, decide}
 use Rattle.rules.specs.Counters.{counterNumber, outcomes, sumOver}
-use Rattle.rules.proofs.Choice.{on, onList, onOption}
-use Rattle.machine.specs.Waiting.{Waiting, portAt}
-use Rattle.machine.specs.Events.{Event, offered, dropped, accepted, notLearned, queued, stateOut, queueOut, sent, drained, portOf, counterOf, bumps, count, Counts, bump, tally}
-use Rattle.machine.specs.State.{State, Call, frameIn, take, age, counter, port, vlan, clearVlan, static, remove, map, queueSwitch, drain, bpdu, Step}
+use Rattle.rules.proofs.Choice.{on, onOption}
+use Rattle.machine.specs.Waiting.{portAt}
+use Rattle.machine.specs.Events.{Event, offered, accepted, notLearned, queued, drained, portOf, counterOf, bumps, count, Counts, bump, tally}
+use Rattle.machine.specs.State.{State, Call, frameIn, take, age, counter, port, vlan, clearVlan, static, remove, map, queueSwitch, drain, bpdu}
 use Rattle.machine.specs.FrameIn.{testEvent, testEvents, lessonEvents, Outcome, drops, queues, outcomeOf, fateEvents, queuedAt, outcomeEvents, entered, frameInStep}
 use Rattle.machine.specs.TakeOut.{served, taken, takeStep, drainStep}
 use Rattle.machine.specs.SettingCalls.{leaves, settle}

@@ -8,4 +8,8 @@ mod Bytes
 mod Addresses
 mod Settings
 pub mod Demands
+mod Refusals
+mod Answers
+mod Outcomes
+mod Departures
 pub mod Calls

@@ -1,23 +1,22 @@
 -- What a history queued at a queue is what it took out of it, and then what waits there: in order, nothing lost, nothing made up.
 -- Assumes nothing.
-use Prim.Native.Nat.{ℕ, zero, suc, _+_, _-_, _≤_}
+use Prim.Native.Nat.{ℕ}
 use mathlib.Core.Path.{_≡_, refl, sym, ap, _∙_, subst}
-use mathlib.Core.Bool.{Bool, true, false, _||_, _&&_, not}
+use mathlib.Core.Bool.{Bool, true, false, _&&_}
 use mathlib.Core.List.{List, [], _∷_, _++_, append-nil, append-assoc}
 use mathlib.Core.List as Lists
 use mathlib.Core.Option.{Option, none, some}
 use lib.Dec.{eqb}
 use lib.ListN as ListN
-use borrow.Author.Tests.{eqb-true, eqb-false, eq-eqb, ne-eqb}
-use Rattle.rules.specs.Choice.{if_then_else_, sift, among, without, Distinct}
+use borrow.Author.Tests.{eqb-true}
+use Rattle.rules.specs.Choice.{if_then_else_, among, Distinct}
 use Rattle.rules.specs.Lines.{first}
 use Rattle.rules.specs.Reasons.{Reason}
 use Rattle.rules.specs.PortTests.{Test, passes, notMember, arrival, elsewhere, state, queueOff, isPassed, portsLeft, allPorts}
 use Rattle.rules.specs.Arrival.{Frame, Fate, drop, offer, Verdict, decide}
-use Rattle.rules.proofs.Choice.{on, onList, onOption, or-left, or-right, and-right, and-false, eqb-self, eqb-sym, distinct-sift}
-use Rattle.machine.specs.Waiting.{Waiting, portAt, waitsAt, queueAt, firstOf, oldest, send, join}
-use Rattle.machine.specs.Waiting as W
-use Rattle.machine.specs.Events.{Event, offered, dropped, accepted, notLearned, queued, stateOut, queueOut, sent, drained, here, in-by, out-by, putIn, takenOut}
+use Rattle.rules.proofs.Choice.{on, onList, onOption, or-left, or-right, eqb-self, eqb-sym, distinct-sift}
+use Rattle.machine.specs.Waiting.{Waiting, portAt, waitsAt, queueAt, firstOf, oldest, send}
+use Rattle.machine.specs.Events.{Event, notLearned, drained, here, in-by, out-by, putIn, takenOut}
 use Rattle.machine.specs.State.{State, Call, frameIn, take, age, counter, port, vlan, clearVlan, static, remove, map, queueSwitch, drain, bpdu, Step}
 use Rattle.machine.specs.FrameIn.{testEvent, testEvents, lessonEvents, roomRules, Outcome, drops, queues, outcomeBy, outcomeOf, fateEvents, queuedAt, outcomeEvents, outcomeWaiting, entered, frameInStep}
 use Rattle.machine.specs.TakeOut.{served, taken, takeStep, drainStep}

@@ -1,10 +1,9 @@
 -- Room: the waiting frames never outnumber the cells, and "no room" is said exactly when a frame's cells outnumber the rest.
 -- Assumes nothing.
-use Prim.Native.Nat.{ℕ, zero, suc, _+_, _-_, _≤_, _<_}
+use Prim.Native.Nat.{ℕ, _-_, _≤_, _<_}
 use mathlib.Core.Path.{_≡_, refl, sym, ap, _∙_, subst}
 use mathlib.Core.Logic.{_↔_}
-use mathlib.Core.Bool.{Bool, true, false}
-use mathlib.Core.List.{List, [], _∷_, _++_}
+use mathlib.Core.List.{List, [], _∷_}
 use native.Mathlib.Omega.{arith}
 use lib.Dec.{ltb}
 use lib.ListN.{length}
@@ -17,9 +16,9 @@ use Rattle.rules.specs.PortTests.{portsLeft}
 use Rattle.rules.specs.Arrival.{Packet, Frame, Fate, drop, offer, decide}
 use Rattle.rules.specs.ArrivalTheorems.{OfferHas}
 use Rattle.rules.specs.Refusals.{frameInLines}
-use Rattle.rules.proofs.Choice.{on, onList, onOption}
+use Rattle.rules.proofs.Choice.{on, onOption}
 use Rattle.rules.proofs.Arrival.{carries}
-use Rattle.machine.specs.Waiting.{Waiting, size, used}
+use Rattle.machine.specs.Waiting.{size, used}
 use Rattle.machine.specs.State.{State, Call, frameIn, take, age, counter, port, vlan, clearVlan, static, remove, map, queueSwitch, drain, bpdu, done}
 use Rattle.machine.specs.FrameIn.{mask, noRoomFor, isNone, roomRules, drops, queues, outcomeBy, outcomeOf, outcomeAnswer, outcomeWaiting, entered, frameInStep}
 use Rattle.machine.specs.TakeOut.{served, taken, takeStep, drainStep}
@@ -32,15 +31,20 @@ use Rattle.machine.proofs.Waits.{used-join, used-send, used-drain}
 
 -- ---- the waiting frames fit
 
+-- what "no room" says of a frame
+room-is : (s : State) (f : Frame) → noRoomFor s f ≡ ltb (s .cellCount - used (s .core .waiting)) (size f)
+unfolding noRoomFor
+room-is s f = refl
+
 outcome-fits : (s : State) (t : Fate) → used (s .core .waiting) ≤ s .cellCount → used (outcomeWaiting (outcomeOf s t) (s .core .waiting)) ≤ s .cellCount
-unfolding outcomeOf outcomeBy outcomeWaiting roomRules first noRoomFor
+unfolding outcomeOf outcomeBy outcomeWaiting roomRules first
 outcome-fits s (drop r) h = h
 outcome-fits s (offer f test) h =
     on (isNone (portsLeft test))
     (λ e. rw e h)
-    (λ e. rw e (on (ltb (s .cellCount - used (s .core .waiting)) (size f))
+    (λ e. rw e (on (noRoomFor s f)
     (λ d. rw d h)
-    (λ d. rw d (omega (arith, ltb-false, used-join f (portsLeft test) (s .core .waiting))))))
+    (λ d. rw d (omega (arith, ltb-false _ _ (sym (room-is s f) ∙ d), used-join f (portsLeft test) (s .core .waiting))))))
 
 act-fits : (s : State) (c : Call) → used (s .core .waiting) ≤ s .cellCount → used (act s c .core .waiting) ≤ s .cellCount
 unfolding act ageStep settle leaves frameInStep takeStep entered taken drainStep
@@ -89,9 +93,9 @@ module _ (s : State) (p : ℕ) (b : Packet) (k : Passed s p b) where
 
   outcome-is : outcomeOf s (decide (s .core .settings) (s .core .table) p b .fate)
       ≡ (if ltb (s .cellCount - used (s .core .waiting)) (cells (length (b .bytes))) then drops noRoom else queues (k .frame) (k .port ∷ k .more))
-  unfolding outcomeOf outcomeBy roomRules first isNone noRoomFor
+  unfolding outcomeOf outcomeBy roomRules first isNone
   outcome-is =
-      rw (k .fate, k .left, passed-size)
+      rw (k .fate, k .left, room-is s (k .frame), passed-size)
       (on (ltb (s .cellCount - used (s .core .waiting)) (cells (length (b .bytes)))) (λ e. rw e) (λ e. rw e))
 
   no-room : p ≤ 4 → (perform s (frameIn p b) .answer ≡ done 13 0 []) ↔ (s .cellCount - used (s .core .waiting) < cells (length (b .bytes)))

@@ -1,21 +1,21 @@
 -- After every history: one VLAN entry a VID, at most sixteen, and no default VID is 0. Assumes nothing.
-use Prim.Native.Nat.{ℕ, zero, suc, _+_, _≤_, _<_}
-use mathlib.Core.Path.{_≡_, refl, sym, ap, _∙_, subst}
-use mathlib.Core.Bool.{Bool, true, false, _||_, _&&_, not, false≢true}
+use Prim.Native.Nat.{ℕ, suc, _+_, _≤_}
+use mathlib.Core.Path.{_≡_, refl, sym, ap, _∙_}
+use mathlib.Core.Bool.{Bool, true, false, _&&_, not}
 use mathlib.Core.List.{List, [], _∷_}
-use mathlib.Core.Option.{Option, none, some}
+use mathlib.Core.Option.{none}
 use native.Mathlib.Omega.{arith}
 use lib.Dec.{eqb, leb}
 use lib.ListN.{length}
-use borrow.Author.Tests.{eqb-true, eqb-false, eq-eqb, ne-eqb, leb-true, leb-false, not-false}
-use Rattle.rules.specs.Choice.{if_then_else_, sift, among, changed, Distinct, Each}
-use Rattle.rules.specs.Lines.{first, Line, line}
+use borrow.Author.Tests.{eqb-true, leb-true, leb-false, not-false}
+use Rattle.rules.specs.Choice.{if_then_else_, sift, among, changed, Distinct}
+use Rattle.rules.specs.Lines.{first}
 use Rattle.rules.specs.Settings.{Vlan, Settings, isThere}
 use Rattle.rules.specs.Arguments.{isVid, PortNumbers, portInRange, operationInRange, portOf, VlanNumbers, vlanEntry}
-use Rattle.rules.specs.Refusals.{Refusal, portLines, vlanLines}
+use Rattle.rules.specs.Refusals.{portLines, vlanLines}
 use Rattle.rules.proofs.Choice.{on, onOption, and-left, and-right, or-left, or-right, each-first, each-rest}
 use Rattle.rules.proofs.Lines.{holds-none}
-use Rattle.machine.specs.State.{State, Call, frameIn, take, age, counter, port, vlan, clearVlan, static, remove, map, queueSwitch, drain, bpdu, Step}
+use Rattle.machine.specs.State.{State, Call, frameIn, take, age, counter, port, vlan, clearVlan, static, remove, map, queueSwitch, drain, bpdu}
 use Rattle.machine.specs.FrameIn.{entered, frameInStep}
 use Rattle.machine.specs.TakeOut.{served, taken, takeStep, drainStep}
 use Rattle.machine.specs.SettingCalls.{leaves, settle, withPort, mostVlans, withEntry, withoutEntry, noEntryLeft, withVlans, withQueue, withSwitch, withBpdu}

@@ -1,10 +1,10 @@
 -- What holds of each single call, in every state: refusals, answers and events, departures. `proofs/Calls.antt` proves it.
 -- Assumes nothing: these are definitions.
-use Prim.Native.Nat.{ℕ, _≤_}
+use Prim.Native.Nat.{ℕ}
 use mathlib.Core.Path.{_≡_}
 use mathlib.Core.Logic.{_↔_}
-use mathlib.Core.Bool.{Bool, true, false}
-use mathlib.Core.List.{List, [], _∷_, _++_}
+use mathlib.Core.Bool.{true, false}
+use mathlib.Core.List.{List, [], _∷_, _++_, map}
 use mathlib.Core.Option.{Option, none, some}
 use lib.ListN.{length}
 use Rattle.rules.specs.Choice.{Each, among}
@@ -12,14 +12,14 @@ use Rattle.rules.specs.Lines.{Line, first, FirstOf}
 use Rattle.rules.specs.Settings.{Settings}
 use Rattle.rules.specs.Reasons.{Reason, reasonNumber}
 use Rattle.rules.specs.PortTests.{portsLeft}
-use Rattle.rules.specs.Arrival.{Packet, Frame, decide}
+use Rattle.rules.specs.Arrival.{Packet, Frame, isBpdu}
 use Rattle.rules.specs.ArrivalTheorems.{reasonTable, frameFor, testsFor, Departs}
 use Rattle.rules.specs.Refusals.{Refusal}
 use Rattle.rules.specs.Counters.{counterNumber}
 use Rattle.rules.specs.Counters as Counters
-use Rattle.machine.specs.Waiting.{Waiting, used, waitsAt, queueAt, send, drain}
+use Rattle.machine.specs.Waiting.{Waiting, used, waitsAt, send}
 use Rattle.machine.specs.Events.{Event, offered, dropped, accepted, notLearned, queued, stateOut, queueOut, sent, drained, count}
-use Rattle.machine.specs.State.{State, Call, frameIn, take, drain as drainCall, Answer, refused, done, Step}
+use Rattle.machine.specs.State.{State, Call, frameIn, take, drain as drainCall, Answer, refused, done}
 use Rattle.machine.specs.FrameIn.{mask, roomRules}
 use Rattle.machine.specs.TakeOut.{leavingBytes}
 use Rattle.machine.specs.Machine.{linesOf, perform, next}
@@ -92,6 +92,11 @@ pub record CallTheorems : Type 0 where
   -- A frame's one outcome is the first line of document 01's table that holds; with none it is queued.
   pub one-outcome : (s : State) (p : ℕ) (k : Packet) → Allowed s (frameIn p k)
       → reasonIn (perform s (frameIn p k) .events) ≡ outcomeNumber (first (fullTable s p k))
+  -- The table has the reasons in the order of their numbers; a BPDU's leaves out 4 to 11.
+  pub table-in-order : (s : State) (p : ℕ) (k : Packet) → isBpdu (s .core .settings) p (k .bytes) ≡ false
+      → map (λ (l : Line Reason). reasonNumber (l .says)) (fullTable s p k) ≡ 1 ∷ 2 ∷ 3 ∷ 4 ∷ 5 ∷ 6 ∷ 7 ∷ 8 ∷ 9 ∷ 10 ∷ 11 ∷ 12 ∷ 13 ∷ []
+  pub bpdu-table-in-order : (s : State) (p : ℕ) (k : Packet) → isBpdu (s .core .settings) p (k .bytes) ≡ true
+      → map (λ (l : Line Reason). reasonNumber (l .says)) (fullTable s p k) ≡ 1 ∷ 2 ∷ 3 ∷ 12 ∷ 13 ∷ []
   -- The answers are the events: a frame-in's its reason and its ports, a take's the frame it sent, a drain's the number of copies.
   pub frame-in-answers : (s : State) (p : ℕ) (k : Packet) → Allowed s (frameIn p k)
       → perform s (frameIn p k) .answer ≡ done (reasonIn (perform s (frameIn p k) .events)) (mask (queuedIn (perform s (frameIn p k) .events))) []
@@ -108,4 +113,4 @@ pub record CallTheorems : Type 0 where
       → used (send p q (before ++ (w ∷ behind))) ≡ used (before ++ (w ∷ behind))
   -- A fresh call starts a new history, whatever came before it.
   pub fresh-starts-anew : (s : State) (earlier : List LifeCall) (n : ℕ) (cs : List Call)
-      → life s (earlier ++ (start n ∷ mathlib.Core.List.map call cs)) ≡ after (fresh n) cs
+      → life s (earlier ++ (start n ∷ map call cs)) ≡ after (fresh n) cs

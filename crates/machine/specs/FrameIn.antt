@@ -1,10 +1,9 @@
 -- Frame-in: from the verdict on a frame to its one outcome, 12 and 13 included. Assumes nothing: these are definitions.
-use Prim.Native.Nat.{ℕ, zero, suc, _+_, _-_, _^_}
+use Prim.Native.Nat.{ℕ, _+_, _-_, _^_}
 use mathlib.Core.Bool.{Bool, true, false}
-use mathlib.Core.List.{List, [], _∷_, _++_, map}
+use mathlib.Core.List.{List, [], _∷_, _++_}
 use mathlib.Core.Option.{Option, none, some}
 use lib.Dec.{ltb}
-use Rattle.rules.specs.Choice.{if_then_else_}
 use Rattle.rules.specs.Lines.{Line, line, first}
 use Rattle.rules.specs.Reasons.{Reason, noPortLeft, noRoom, reasonNumber}
 use Rattle.rules.specs.PortTests.{Test, passes, notMember, arrival, elsewhere, state, queueOff, allPorts, portsLeft}

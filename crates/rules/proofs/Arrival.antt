@@ -1,20 +1,20 @@
 -- The verdict on a frame against document 01's table. Assumes nothing.
 use Prim.Native.Nat.{ℕ}
-use mathlib.Core.Path.{_≡_, refl, sym, ap, _∙_, subst}
-use mathlib.Core.Bool.{Bool, true, false, _&&_, not, false≢true}
-use mathlib.Core.List.{List, [], _∷_, _++_, append-nil}
+use mathlib.Core.Path.{_≡_, refl, sym, _∙_}
+use mathlib.Core.Bool.{Bool, true, false, not, false≢true}
+use mathlib.Core.List.{List, [], _∷_, _++_}
 use mathlib.Core.Option.{Option, none, some}
 use native.Mathlib.Omega.{arith}
 use lib.Dec.{eqb}
 use borrow.Author.Tests.{eqb-true, eqb-false, not-false}
 use Rattle.rules.specs.Choice.{if_then_else_}
 use Rattle.rules.specs.Lines.{Line, first}
-use Rattle.rules.specs.Settings.{Settings, Vlan, departs}
+use Rattle.rules.specs.Settings.{PortState, disabled, blocking, listening, learning, forwarding, Settings, Vlan, departs}
 use Rattle.rules.specs.Addresses.{Table, Found}
 use Rattle.rules.specs.Reasons.{Reason}
 use Rattle.rules.specs.PortTests.{Test, passes, notMember, arrival, elsewhere, state, queueOff, isPassed, managementPort, isChosen, portTest, bpduTest}
-use Rattle.rules.specs.Arrival.{Packet, Frame, Fate, drop, offer, Verdict, isBpdu, vlanFor, queueFor, lookUp, testFor, earlyRules, arrivalRules, candidateRules, dropped, unless, fateBy, bpduFrame, bpduVerdict, vlanFrame, lesson, vlanVerdict, decide}
-use Rattle.rules.specs.ArrivalTheorems.{reasonTable, frameFor, testsFor, reasonOf, OfferHas, MayDepart, Departs, as-bpdu, as-frame, ArrivalTheorems}
+use Rattle.rules.specs.Arrival.{Packet, Frame, isBpdu, vlanFor, queueFor, lookUp, testFor, earlyRules, arrivalRules, candidateRules, dropped, unless, fateBy, bpduFrame, bpduVerdict, vlanFrame, lesson, vlanVerdict, decide}
+use Rattle.rules.specs.ArrivalTheorems.{reasonTable, frameFor, testsFor, reasonOf, OfferHas, DisabledOrForwarding, is-disabled, is-forwarding, MayDepart, Departs, as-bpdu, as-frame, ArrivalTheorems}
 use Rattle.rules.proofs.Choice.{on, onOption}
 
 -- ---- the first line of two tables
@@ -108,6 +108,14 @@ test-passed s v found p q r h =
      not-false (departs (s .port r .state)) (d .0),
      not-false (s .queueOn r q) (e .0))
 
+state-passed : (x : PortState) → departs x ≡ true → DisabledOrForwarding x
+unfolding departs
+state-passed disabled e = is-disabled
+state-passed blocking e = absurd (false≢true e)
+state-passed listening e = absurd (false≢true e)
+state-passed learning e = absurd (false≢true e)
+state-passed forwarding e = is-forwarding
+
 bpdu-passed : (s : Settings) (r : ℕ) → isPassed (bpduTest s r) ≡ true → r ≡ managementPort
 unfolding bpduTest isPassed
 bpdu-passed s r h =
@@ -125,7 +133,7 @@ departs-by s t p k =
   where
     may : (r : ℕ) → (vlanFor s p (k .bytes) .member r ≡ true) × (r ≡ p → ⊥) × (isChosen (lookUp s t p (k .bytes)) r ≡ true)
         × (departs (s .port r .state) ≡ true) × (s .queueOn r (queueFor s p (k .bytes)) ≡ true) → MayDepart s t p (k .bytes) r
-    may r h = record { member = h .0; not-arrival = h .1; chosen = h .2; state = h .3; queue = h .4 }
+    may r h = record { member = h .0; not-arrival = h .1; chosen = h .2; state = state-passed (s .port r .state) (h .3); queue = h .4 }
 
 -- ---- learning
 

@@ -1,30 +1,35 @@
 -- The opposites of the slips that are seen in class. Assumes nothing.
 use Prim.Native.Nat.{ℕ, zero, suc, _≤_}
-use mathlib.Core.Path.{_≡_, refl, sym, ap, _∙_, subst}
-use mathlib.Core.Bool.{Bool, true, false, _||_, not, false≢true}
-use mathlib.Core.List.{List, [], _∷_}
+use mathlib.Core.Path.{_≡_, refl, sym, ap, _∙_}
+use mathlib.Core.Bool.{true, false, false≢true}
+use mathlib.Core.List.{List, _∷_}
 use native.Mathlib.Omega.{arith}
 use lib.Dec.{eqb}
-use lib.ListN.{getD}
-use borrow.Author.Tests.{eqb-true, eqb-false, eq-eqb, ne-eqb}
-use Rattle.rules.specs.Choice.{if_then_else_}
+use borrow.Author.Tests.{eqb-true, eqb-false, ne-eqb}
 use Rattle.rules.specs.Tags.{Header, Tag, destination, source, isGroup}
 use Rattle.rules.specs.Operations.{outermost, push, Operation, Origin, headerAt, from, newTag, act, operate, leavingTags}
 use Rattle.rules.specs.Settings.{Settings, Vlan, orDefault, assignedVid}
-use Rattle.rules.specs.Addresses.{Entry, Table, Found, at, nowhere, key, find}
-use Rattle.rules.specs.PortTests.{Test, isCandidate, isChosen, anyCandidate, portTest}
+use Rattle.rules.specs.Addresses.{Entry, Table, at, nowhere, key, find}
+use Rattle.rules.specs.PortTests.{isCandidate, isChosen, anyCandidate, portTest}
 use Rattle.rules.specs.Arrival.{vlanFor, queueFor, lookUp, testFor}
 use Rattle.rules.specs.Slips.{Slips}
 use Rattle.rules.proofs.Choice.{on}
 
 -- ---- VID 0
 
-or-default-positive : (default : Header) (vid : ℕ) → 1 ≤ default .vid → orDefault default vid ≡ 0 → ⊥
+or-default-zero : (default : Header) → orDefault default 0 ≡ default .vid
 unfolding orDefault
+or-default-zero default = refl
+
+or-default-other : (default : Header) (vid : ℕ) → (vid ≡ 0 → ⊥) → orDefault default vid ≡ vid
+unfolding orDefault
+or-default-other default vid other = rw (ne-eqb vid 0 other)
+
+or-default-positive : (default : Header) (vid : ℕ) → 1 ≤ default .vid → orDefault default vid ≡ 0 → ⊥
 or-default-positive default vid h e =
     on (eqb vid 0)
-    (λ z. let d : default .vid ≡ 0 = rw z at e in omega arith)
-    (λ z. let d : vid ≡ 0 = rw z at e in eqb-false vid 0 z d)
+    (λ z. omega (arith, or-default-zero default, rw (eqb-true vid 0 z) at e))
+    (λ z. eqb-false vid 0 z (sym (or-default-other default vid (eqb-false vid 0 z)) ∙ e))
 
 vid-zero-is-never-looked-up : (assignment : ℕ) (default : Header) (tags : List Tag) → 1 ≤ default .vid → assignedVid assignment default tags ≡ 0 → ⊥
 unfolding assignedVid
@@ -32,8 +37,8 @@ vid-zero-is-never-looked-up zero default tags h e = omega arith
 vid-zero-is-never-looked-up (suc i) default tags h e = or-default-positive default (headerAt default tags i .vid) h e
 
 priority-tag : (default : Header) (t : Tag) (ts : List Tag) → t .header .vid ≡ 0 → assignedVid 1 default (t ∷ ts) ≡ default .vid
-unfolding assignedVid orDefault headerAt
-priority-tag default t ts h = rw (eq-eqb (t .header .vid) 0 h)
+unfolding assignedVid headerAt
+priority-tag default t ts h = ap (orDefault default) h ∙ or-default-zero default
 
 -- ---- the second new tag
 
@@ -63,13 +68,22 @@ found-port-must-be-member s t p bytes i e f h =
 
 -- ---- a frame to its own sender
 
+floods : (s : Settings) (t : Table) (p : ℕ) (bytes : List ℕ) → isGroup (destination bytes) ≡ true → lookUp s t p bytes ≡ nowhere
+unfolding lookUp
+floods s t p bytes g = rw g
+
+looks-up : (s : Settings) (t : Table) (p : ℕ) (bytes : List ℕ) → isGroup (destination bytes) ≡ false
+    → lookUp s t p bytes ≡ find t (key (vlanFor s p bytes .gid) (destination bytes))
+unfolding lookUp
+looks-up s t p bytes g = rw g
+
 own-sender-is-not-found : (s : Settings) (t : Table) (p : ℕ) (bytes : List ℕ) → destination bytes ≡ source bytes
     → find t (key (vlanFor s p bytes .gid) (source bytes)) ≡ nowhere → (r : ℕ) → isChosen (lookUp s t p bytes) r ≡ true
-unfolding lookUp isChosen
+unfolding isChosen
 own-sender-is-not-found s t p bytes same unknown r =
     on (isGroup (destination bytes))
-    (λ g. rw g)
-    (λ g. rw (g, ap (λ (a : ℕ). find t (key (vlanFor s p bytes .gid) a)) same ∙ unknown))
+    (λ g. rw (floods s t p bytes g))
+    (λ g. rw (looks-up s t p bytes g ∙ ap (λ (a : ℕ). find t (key (vlanFor s p bytes .gid) a)) same ∙ unknown))
 
 pub slips : Slips
 slips =

@@ -1,14 +1,12 @@
 -- A tag written and read is the tag, and a frame is its addresses, its tags and its payload. Assumes nothing.
-use Prim.Native.Nat.{ℕ, zero, suc, _+_, _-_, _*_, _/_, _%_, _≤_, _<_}
-use mathlib.Core.Path.{_≡_, refl, sym, ap, ap₂, _∙_, subst}
-use mathlib.Core.Bool.{Bool, true, false, _||_}
+use Prim.Native.Nat.{ℕ, suc, _+_, _*_, _/_, _%_, _≤_, _<_}
+use mathlib.Core.Path.{_≡_, refl, sym, ap, ap₂, _∙_}
+use mathlib.Core.Bool.{true, false}
 use mathlib.Core.List.{List, [], _∷_, _++_, append-assoc}
 use native.Mathlib.Omega.{arith}
-use lib.Dec.{eqb}
-use lib.ListN.{length, length-append, getD, take, drop, take-append-drop}
-use lib.Seq.{drop-cons, getD-append-add, drop-append-add, take-at, drop-at, getD-drop}
-use borrow.Author.Tests.{eqb-true}
-use Rattle.rules.specs.Choice.{if_then_else_, Each, nobody, also}
+use lib.ListN.{length, length-append, getD, drop, take-append-drop}
+use lib.Seq.{drop-cons, getD-append-add, drop-at}
+use Rattle.rules.specs.Choice.{Each, nobody, also}
 use Rattle.rules.specs.Tags.{Header, Tag, twoBytesAt, isTagType, headerOf, tagAt, tagsOf, addresses, payload, headerBytes, tagBytes, stackBytes, Bytes, HeaderInRange}
 use Rattle.rules.specs.TagTheorems.{IsTag, NoTag, TagTheorems}
 use Rattle.rules.proofs.Choice.{on}

@@ -9,7 +9,7 @@ use lib.ListN.{length}
 use Rattle.rules.specs.Choice.{if_then_else_}
 use Rattle.rules.specs.Lines.{Line, line, first}
 use Rattle.rules.specs.Cells.{shortest, longest}
-use Rattle.rules.specs.Tags.{Header, tagsOf, destination, source, isGroup}
+use Rattle.rules.specs.Tags.{tagsOf, destination, source, isGroup}
 use Rattle.rules.specs.Operations.{Operation, Origin}
 use Rattle.rules.specs.Settings.{Vlan, Settings, noOperation, isBlocking, isListening, isLearning, isThere, vlanOf, assignedVid, queuePcp}
 use Rattle.rules.specs.Addresses.{Table, Found, nowhere, Learned, key, find, mark, learn}
