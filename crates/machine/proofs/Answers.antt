@@ -13,7 +13,6 @@ use Rattle.machine.specs.Machine.{act, perform}
 use Rattle.machine.specs.CallTheorems.{reasonIn, queuedIn, Allowed}
 use Rattle.machine.proofs.Steps.{allowed-has}
 
-
 -- events that neither drop nor queue a frame
 record Quiet (es : List Event) : Type 0 where
   reason : (rest : List Event) → reasonIn (es ++ rest) ≡ reasonIn rest

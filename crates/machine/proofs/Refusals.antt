@@ -18,7 +18,6 @@ use Rattle.machine.specs.TakeOut.{served, taken, takeStep, drainStep}
 use Rattle.machine.specs.SettingCalls.{leaves, settle}
 use Rattle.machine.specs.Machine.{linesOf, ageStep, act, refusing, unlessRefused, perform, next}
 
-
 Done : Answer → Type 0
 Done a = (x : ℕ) × (y : ℕ) × (out : List ℕ) × (a ≡ done x y out)
 

@@ -44,7 +44,7 @@ outcome-fits s (offer f test) h =
     (λ e. rw e h)
     (λ e. rw e (on (noRoomFor s f)
     (λ d. rw d h)
-    (λ d. rw d (omega (arith, ltb-false _ _ (sym (room-is s f) ∙ d), used-join f (portsLeft test) (s .core .waiting))))))
+    (λ d. rw d (omega (arith, ltb-false (s .cellCount - used (s .core .waiting)) (size f) (sym (room-is s f) ∙ d), used-join f (portsLeft test) (s .core .waiting))))))
 
 act-fits : (s : State) (c : Call) → used (s .core .waiting) ≤ s .cellCount → used (act s c .core .waiting) ≤ s .cellCount
 unfolding act ageStep settle leaves frameInStep takeStep entered taken drainStep
