@@ -16,7 +16,7 @@ use Rattle.rules.specs.Refusals.{portLines, vlanLines}
 use Rattle.rules.proofs.Choice.{on, onOption, and-left, and-right, or-left, or-right, each-first, each-rest}
 use Rattle.rules.proofs.Lines.{holds-none}
 use Rattle.machine.specs.State.{State, Call, frameIn, take, age, counter, port, vlan, clearVlan, static, remove, map, queueSwitch, drain, bpdu}
-use Rattle.machine.specs.FrameIn.{entered, frameInStep}
+use Rattle.machine.specs.FrameIn.{entered, frameInStep, frameInEvents}
 use Rattle.machine.specs.TakeOut.{served, taken, takeStep, drainStep}
 use Rattle.machine.specs.SettingCalls.{leaves, settle, withPort, mostVlans, withEntry, withoutEntry, noEntryLeft, withVlans, withQueue, withSwitch, withBpdu}
 use Rattle.machine.specs.Machine.{linesOf, ageStep, act, refusing, perform, next}
@@ -110,7 +110,7 @@ entry-fits vs new h c =
 -- ---- a call
 
 act-in-order : (s : State) (c : Call) → InOrder (s .core .settings) → first (linesOf s c) ≡ none → InOrder (act s c .core .settings)
-unfolding act ageStep settle leaves frameInStep takeStep entered taken drainStep linesOf withPort withVlans withQueue withSwitch withBpdu withoutEntry vlanEntry portOf changed
+unfolding act ageStep settle leaves frameInStep takeStep entered frameInEvents taken drainStep linesOf withPort withVlans withQueue withSwitch withBpdu withoutEntry vlanEntry portOf changed
 act-in-order s (frameIn a k) h e = h
 act-in-order s (take a room) h e = onOption (served s a) (λ d. rw d h) (λ f d. rw d h)
 act-in-order s age h e = h
