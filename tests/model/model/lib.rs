@@ -1,0 +1,18 @@
+//! The model: every call of document 01 over plain data. A test tool, written from the document and from nothing else.
+//!
+//! Modules name one another by `super`, so that copies of the model, each with a fault, can stand side by side in one
+//! crate.
+
+pub mod addresses;
+pub mod arrival;
+pub mod bench;
+pub mod calls;
+pub mod counters;
+pub mod departure;
+pub mod frame;
+pub mod operation;
+pub mod records;
+pub mod refusals;
+pub mod settings;
+pub mod switch;
+pub mod waiting;
