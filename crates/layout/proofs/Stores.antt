@@ -1,9 +1,9 @@
 -- Which stores to link memory leave the words of a kind alone: a store to a word that is none of them, and two such stores. Assumes nothing.
 use mathlib.Core.Path.{_≡_, sym, _∙_}
 use mathlib.Core.List.{List}
-use Prim.Native.Nat.{ℕ, _<_, _≤_}
+use Prim.Native.Nat.{ℕ, _≤_}
 use native.Mathlib.Omega.{arith}
-use lib.ListN.{getD, set}
+use lib.ListN.{set}
 use lib.Seq.{getD-set-other}
 use Rattle.layout.specs.Places.{freeCountWord, firstFreeWord, oldestWord, countWord, nextWord, sizeWord, portsWord, ringPlace}
 use Rattle.layout.specs.Same.{SettingsSame, CellsSame, RingSame}

@@ -1,0 +1,17 @@
+pub mod Counts
+pub mod Steps
+pub mod Moves
+pub mod Parts
+pub mod Turns
+pub mod Headers
+pub mod Paths
+pub mod Words
+pub mod Sums
+pub mod Kept
+pub mod Apart
+pub mod Loads
+pub mod Totals
+pub mod Room
+pub mod Fresh
+pub mod Operations
+pub mod Unchanged

@@ -1,0 +1,78 @@
+-- What a turn of the loops over a chain does, and what the first cell takes and gives. Assumes nothing.
+use mathlib.Core.Path.{_≡_, ap, ap₂, _∙_}
+use mathlib.Core.List.{List, _++_}
+use Prim.Native.Nat.{ℕ, _+_, _*_, _-_, _≤_, _<_, min}
+use native.Mathlib.Omega.{arith}
+use lib.ListN.{length, take, drop, length-take, length-drop}
+use lib.Seq.{sets, drop-drop, drop-append-le, take-append-add, drop-append-add}
+use Rattle.slices.specs.Runs.{sets-append}
+use Rattle.cells.specs.Chains.{next, follow}
+use Rattle.cells.specs.Bytes.{storeCells, loadCells, frameIn}
+use Rattle.cells.proofs.Steps.{follow-cons}
+use Rattle.cells.proofs.Parts.{take-min, drop-min, take-append, take-take-min, drop-take, drop-part, length-part, next-drop, part-is}
+
+-- u bytes from place at on, of which the first cell has v
+first-part : (u v a m : ℕ) → m ≡ min v u → min u v ≡ a + m - a
+first-part u v a m p = omega arith
+
+rest-part : (u v at m : ℕ) → m ≡ min v u → u - v ≡ at + u - (at + m)
+rest-part u v at m p = omega arith
+
+module _ (l : List ℕ) (k c : ℕ) (more : 0 < k) where
+  pub store-turn : (mem bytes : List ℕ) (d e : ℕ) → e ≡ min (d + 80) (length bytes)
+      → storeCells (sets mem (80 * c) (take 80 (drop d bytes))) (follow l (k - 1) (next l c)) (drop e bytes) ≡ storeCells mem (follow l k c) (drop d bytes)
+  store-turn mem bytes d e p = rw (follow-cons l k c more, next-drop bytes d e p)
+
+  -- the first cell takes the header, and as much of the frame as there is room for
+  pub store-first : (mem header frame : List ℕ) (m : ℕ) → length header ≡ 8 → m ≡ min 72 (length frame)
+      → storeCells (sets (sets mem (80 * c) header) (80 * c + 8) (take m frame)) (follow l (k - 1) (next l c)) (drop m frame) ≡ storeCells mem (follow l k c) (header ++ frame)
+  store-first mem header frame m h p =
+      let front : take m frame ≡ take 72 frame = rw (p, take-min 72 frame) in
+      let back : drop m frame ≡ drop 72 frame = rw (p, drop-min 72 frame) in
+      let first : take 80 (header ++ frame) ≡ header ++ take 72 frame = rw h at (take-append-add header frame 72) in
+      let others : drop 80 (header ++ frame) ≡ drop 72 frame = rw h at (drop-append-add header frame 72) in
+      let whole : storeCells mem (follow l k c) (header ++ frame) ≡ storeCells (sets mem (80 * c) (take 80 (header ++ frame))) (follow l (k - 1) (next l c)) (drop 80 (header ++ frame)) =
+      rw (follow-cons l k c more) in
+      rw (whole, front, back, first, others, sets-append mem (80 * c) header (take 72 frame), h)
+
+  module _ (mem out : List ℕ) (fits : 80 * c + 80 ≤ length mem) where
+    -- a turn that reads a cell, into out from place d on, up to place end
+    pub load-turn : (d e end : ℕ) → d ≤ end → e ≡ min (d + 80) end
+        → sets (sets out d (take (min 80 (end - d)) (drop (80 * c) mem))) e (take (end - e) (loadCells mem (follow l (k - 1) (next l c))))
+        ≡ sets out d (take (end - d) (loadCells mem (follow l k c)))
+    load-turn d e end h p =
+        let rest : List ℕ = loadCells mem (follow l (k - 1) (next l c)) in
+        let cell : List ℕ = take 80 (drop (80 * c) mem) in
+        let x : List ℕ = take (min 80 (end - d)) (drop (80 * c) mem) in
+        let cell-long : length cell ≡ 80 = length-part (80 * c) 80 mem fits in
+        let x-long : d + length x ≡ e = simp (length-take, length-drop) (omega arith) in
+        let same : min (end - d) 80 ≡ min 80 (end - d) = omega arith in
+        let left : end - d - length cell ≡ end - e = omega arith in
+        let first : take (end - d) cell ≡ x = take-take-min (end - d) 80 (drop (80 * c) mem) ∙ ap (λ (m : ℕ). take m (drop (80 * c) mem)) same in
+        let split : take (end - d) (cell ++ rest) ≡ x ++ take (end - e) rest = take-append (end - d) cell rest ∙ ap₂ _++_ first (ap (λ (m : ℕ). take m rest) left) in
+        rw (follow-cons l k c more, split, sets-append out d x (take (end - e) rest), x-long)
+
+    -- the first cell is read past the header and the bytes that are left out
+    pub load-first : (from long at m : ℕ) → from ≤ 72 → from ≤ long → m ≡ min (72 - from) (long - from)
+        → let a = 80 * c + 8 + from in
+        sets (sets out at (take (a + m - a) (drop a mem))) (at + m) (take (at + (long - from) - (at + m)) (loadCells mem (follow l (k - 1) (next l c))))
+        ≡ sets out at (drop from (frameIn mem (follow l k c) long))
+    unfolding frameIn
+    load-first from long at m small short p =
+        let a : ℕ = 80 * c + 8 + from in
+        let rest : List ℕ = loadCells mem (follow l (k - 1) (next l c)) in
+        let cell : List ℕ = take 80 (drop (80 * c) mem) in
+        let y : List ℕ = take (72 - from) (drop a mem) in
+        let x : List ℕ = take (a + m - a) (drop a mem) in
+        let cell-long : length cell ≡ 80 = length-part (80 * c) 80 mem fits in
+        let y-long : length y ≡ 72 - from = length-part a (72 - from) mem (omega arith) in
+        let x-long : length x ≡ m = length-part a (a + m - a) mem (omega arith) ∙ (omega arith) in
+        let past : drop from (drop 8 (cell ++ rest)) ≡ y ++ rest =
+        drop-drop from 8 (cell ++ rest) ∙ drop-append-le (8 + from) cell rest (omega arith) ∙ ap (λ (v : List ℕ). v ++ rest) (drop-part (8 + from) (80 * c) 80 mem (omega arith) ∙ part-is mem (80 * c + (8 + from)) a (80 - (8 + from)) (72 - from) (omega arith) (omega arith)) in
+        let same : min (long - from) (72 - from) ≡ a + m - a = first-part (long - from) (72 - from) a m p in
+        let left : long - from - length y ≡ at + (long - from) - (at + m) = rw y-long (rest-part (long - from) (72 - from) at m p) in
+        let first : take (long - from) y ≡ x = take-take-min (long - from) (72 - from) (drop a mem) ∙ ap (λ (u : ℕ). take u (drop a mem)) same in
+        let split : take (long - from) (y ++ rest) ≡ x ++ take (at + (long - from) - (at + m)) rest = take-append (long - from) y rest ∙ ap₂ _++_ first (ap (λ (u : ℕ). take u rest) left) in
+        let whole : drop from (take long (drop 8 (loadCells mem (follow l k c)))) ≡ x ++ take (at + (long - from) - (at + m)) rest =
+        rw (follow-cons l k c more) (drop-take from long (drop 8 (cell ++ rest)) short ∙ ap (take (long - from)) past ∙ split) in
+        rw (whole, sets-append out at x (take (at + (long - from) - (at + m)) rest), x-long)

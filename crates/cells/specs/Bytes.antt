@@ -1,0 +1,27 @@
+-- The layout paper, "Cell memory": bytes over the cells of a chain, 80 to a cell. Assumes nothing.
+use Prim.Native.Nat.{ℕ, _+_, _*_}
+use mathlib.Core.List.{List, [], _∷_, _++_}
+use lib.ListN.{take, drop}
+use lib.Seq.{sets}
+use Rattle.rules.specs.Cells.{cellSize, storedHeader}
+
+-- "what lies behind the last byte in the last cell keeps what was there before"
+abbrev pub storeCells : List ℕ → List ℕ → List ℕ → List ℕ
+storeCells cells [] bytes = cells
+storeCells cells (c ∷ cs) bytes = storeCells (sets cells (cellSize * c) (take cellSize bytes)) cs (drop cellSize bytes)
+
+-- the bytes of the cells of a chain, one after the other
+abbrev pub loadCells : List ℕ → List ℕ → List ℕ
+loadCells cells [] = []
+loadCells cells (c ∷ cs) = take cellSize (drop (cellSize * c) cells) ++ loadCells cells cs
+
+-- the stored header of the frame whose first cell is c, and the count bytes of the frame behind it
+abbrev pub headerIn : List ℕ → ℕ → List ℕ
+headerIn cells c = take storedHeader (drop (cellSize * c) cells)
+
+abbrev pub frontIn : List ℕ → ℕ → ℕ → List ℕ
+frontIn cells c count = take count (drop (cellSize * c + storedHeader) cells)
+
+-- the bytes of a frame of this length over the cells of a chain
+unfoldable pub frameIn : List ℕ → List ℕ → ℕ → List ℕ
+frameIn cells chain long = take long (drop storedHeader (loadCells cells chain))

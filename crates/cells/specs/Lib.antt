@@ -1,0 +1,5 @@
+pub mod Chains
+pub mod Free
+pub mod Bytes
+pub mod Stored
+pub mod Sound

@@ -1,0 +1,4 @@
+pub mod Wraps
+pub mod Entries
+pub mod Answers
+pub mod Apart

@@ -1,0 +1,124 @@
+-- `queues::push` meets its contract. Assumes nothing.
+use mathlib.Core.Path.{ap}
+use mathlib.Core.List.{List}
+use Prim.Native.Nat.{ℕ, _+_, _<_}
+use lib.ListN.{set, length-set}
+use Rattle.layout.specs.Places.{countWord, ringPlace}
+use Rattle.queues.specs.Rings.{countOf, pushed}
+use Rattle.queues.proofs.Wraps.{wrap-in}
+use native.Mathlib.Omega.{arith}
+use borrow.Author.Needs.{needs}
+use Rattle.queues.proofs.push.Statement.{statement}
+use Rattle.queues.proofs.push.Tie as tie
+
+in-ring : (c : tie.After-wrap) → c .wrap .result < c .before .before .before .before .args .n
+in-ring c = rw (c .wrap .ensures) (wrap-in _ _ (omega arith))
+
+written : ℕ → ℕ → List ℕ → ℕ → List ℕ
+written r x l place = set (set l (ringPlace r place) x) (countWord r) (countOf l r + 1)
+
+mul-oldest : tie.Need-mul-oldest
+mul-oldest c = search needs
+
+add-oldest : tie.Need-add-oldest
+add-oldest c = search needs
+
+mul-oldest-2 : tie.Need-mul-oldest-2
+mul-oldest-2 c = search needs
+
+slice-read-oldest : tie.Need-slice-read-oldest
+slice-read-oldest c = search needs
+
+cast-oldest : tie.Need-cast-oldest
+cast-oldest c = search needs
+
+mul-count : tie.Need-mul-count
+mul-count c = search needs
+
+add-count : tie.Need-add-count
+add-count c = search needs
+
+mul-count-2 : tie.Need-mul-count-2
+mul-count-2 c = search needs
+
+slice-read-count : tie.Need-slice-read-count
+slice-read-count c = search needs
+
+cast-count : tie.Need-cast-count
+cast-count c = search needs
+
+add-wrap : tie.Need-add-wrap
+add-wrap c = search needs
+
+wrap-requires : tie.Need-wrap-requires
+wrap-requires c κs = search needs
+
+add-links : tie.Need-add-links
+add-links c = search needs
+
+mul-links : tie.Need-mul-links
+mul-links c = omega (arith, in-ring c)
+
+add-links-2 : tie.Need-add-links-2
+add-links-2 c = omega (arith, in-ring c)
+
+mul-links-2 : tie.Need-mul-links-2
+mul-links-2 c = omega (arith, in-ring c)
+
+slice-write-links : tie.Need-slice-write-links
+slice-write-links c = omega (arith, in-ring c)
+
+add-links-3 : tie.Need-add-links-3
+add-links-3 c = search needs
+
+cast-links : tie.Need-cast-links
+cast-links c = search needs
+
+mul-links-3 : tie.Need-mul-links-3
+mul-links-3 c = search needs
+
+add-links-4 : tie.Need-add-links-4
+add-links-4 c = search needs
+
+mul-links-4 : tie.Need-mul-links-4
+mul-links-4 c = search needs
+
+slice-write-links-2 : tie.Need-slice-write-links-2
+slice-write-links-2 c = simp length-set (omega arith)
+
+same-length : tie.Need-same-length
+same-length c = search needs
+
+returns : tie.Need-returns
+unfolding pushed written
+returns c = let s = c .before .before .before .before in ap (written (s .args .r) (s .args .x) (s .args .links .now)) (c .wrap .ensures)
+
+pub push-spec : {M : Type 1} → statement M
+push-spec =
+    tie.close
+    (tie.spec
+    mul-oldest
+    add-oldest
+    mul-oldest-2
+    slice-read-oldest
+    cast-oldest
+    mul-count
+    add-count
+    mul-count-2
+    slice-read-count
+    cast-count
+    add-wrap
+    wrap-requires
+    add-links
+    mul-links
+    add-links-2
+    mul-links-2
+    slice-write-links
+    add-links-3
+    cast-links
+    mul-links-3
+    add-links-4
+    mul-links-4
+    slice-write-links-2
+    same-length
+    returns)
