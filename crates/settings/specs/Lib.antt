@@ -1,0 +1,14 @@
+pub mod Records
+pub mod RecordRuns
+pub mod RecordLaws
+pub mod RangeLaws
+pub mod Words
+pub mod Table
+pub mod TableSteps
+pub mod SettingsOf
+pub mod TableLaws
+pub mod FindLaws
+pub mod SettingsAlike
+pub mod SettingsLaws
+pub mod CounterLaws
+pub mod SameLaws
