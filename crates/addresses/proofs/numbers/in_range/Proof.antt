@@ -1,0 +1,12 @@
+-- `addresses::numbers::in_range` meets its contract. Assumes nothing.
+use mathlib.Core.Path.{refl}
+use Rattle.addresses.specs.Numbers.{inRange}
+use Rattle.addresses.proofs.numbers.in_range.Statement.{statement}
+use Rattle.addresses.proofs.numbers.in_range.Tie as tie
+
+returns : tie.Need-returns
+unfolding inRange
+returns c = refl
+
+pub in-range-spec : {M : Type 1} → statement M
+in-range-spec = tie.close (tie.spec returns)

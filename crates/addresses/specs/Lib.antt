@@ -1,0 +1,5 @@
+pub mod Numbers
+pub mod Search
+pub mod Turns
+pub mod Writes
+pub mod Theorems

@@ -1,0 +1,211 @@
+// Address memory: 4,112 numbers, searched by key. What a change writes is found by a look-up before, so that each change is one write.
+pub mod numbers;
+
+ghost use mathlib.Core.Path.{_≡_};
+ghost use Prim.Native.Nat.{_<_, _≤_, _^_};
+ghost use lib.ListN.{length, replicate};
+ghost use Rattle.rules.specs.Addresses.{key, bucketOf};
+ghost use Rattle.addresses.specs.Numbers.{allInRange};
+ghost use Rattle.addresses.specs.Search.{lookUp, placeOf};
+ghost use Rattle.addresses.specs.Turns.{placeAt, emptySoFar, unfound};
+ghost use Rattle.addresses.specs.Writes.{markedBy, learnedBy, staticBy, removedBy, agedBy};
+
+// No place: there are 4,112.
+const NO_PLACE: usize = 4112;
+
+pub enum LookUp {
+    // a match: its port and its place
+    Found { port: u32, place: usize },
+    // no match: the first empty place of the twenty
+    Vacant(usize),
+    // no match, and all twenty places in use
+    Full,
+    // a place out of range was met
+    Damaged,
+}
+
+// GID × 2^48 + address.
+pub fn key_of(gid: u32, address: u64) -> u64
+    requires { ⌜ (gid ≤ 15) × (address < 2 ^ 48) ⌝ }
+    ensures { λ r. ⌜ (r ≡ key gid address) × (r < 2 ^ 52) ⌝ }
+{
+    gid as u64 * 281474976710656 + address
+}
+
+// The ten-bit groups of a key, joined by exclusive or: its upper three groups over its lower three, and then those three.
+pub fn bucket_of(key: u64) -> usize
+    ensures { λ r. ⌜ (r ≡ bucketOf key) × (r < 1024) ⌝ }
+{
+    let folded = key ^ (key / 1073741824);
+    let joined = (folded ^ ((folded / 1024) ^ (folded / 1048576))) % 1024;
+    joined as usize
+}
+
+// The place that a search meets in a turn from 0 to 19: the bucket's four, then the spares.
+fn place_at(bucket: usize, turn: usize) -> usize
+    requires { ⌜ (bucket < 1024) × (turn < 20) ⌝ }
+    ensures { λ r. ⌜ (r ≡ placeAt bucket turn) × (r < 4112) ⌝ }
+{
+    if turn < 4 {
+        return bucket * 4 + turn;
+    }
+    4092 + turn
+}
+
+// The first empty place so far.
+fn first_empty(before: usize, number: u64, place: usize) -> usize
+    ensures { λ r. ⌜ r ≡ emptySoFar before number place ⌝ }
+{
+    if number == 0 {
+        if before == NO_PLACE {
+            return place;
+        }
+    }
+    before
+}
+
+fn not_found(empty: usize) -> LookUp
+    ensures { λ r. ⌜ r ≡ unfound empty ⌝ }
+{
+    if empty == NO_PLACE {
+        return LookUp::Full;
+    }
+    LookUp::Vacant(empty)
+}
+
+// "The search takes the bucket's four places, then the sixteen spares; the first match ends it."
+pub fn look_up(addresses: &[u64], key: u64) -> LookUp
+    requires { ⌜ (length (now addresses) ≡ 4112) × (key < 2 ^ 52) ⌝ }
+    ensures { λ r. ⌜ r ≡ lookUp (now (addresses .entry)) key ⌝ }
+{
+    let bucket = bucket_of(key);
+    let wanted = numbers::IN_USE + key;
+    let mut empty = NO_PLACE;
+    let mut turn = 0;
+    let found = 'search: loop {
+        if turn == 20 {
+            return not_found(empty);
+        }
+        let place = place_at(bucket, turn);
+        let number = addresses[place];
+        if numbers::body_of(number) == wanted {
+            break 'search place;
+        }
+        if numbers::in_range(number) {
+            empty = first_empty(empty, number, place);
+            turn += 1;
+        } else {
+            return LookUp::Damaged;
+        }
+    };
+    let port = numbers::port_of(addresses[found]);
+    if port > 4 {
+        return LookUp::Damaged;
+    }
+    LookUp::Found { port, place: found }
+}
+
+// "A hit marks the entry as used."
+pub fn mark(addresses: &mut [u64], found: LookUp)
+    requires { ⌜ placeOf found < length (now addresses) ⌝ }
+    ensures { λ _. ⌜ now (addresses .exit) ≡ markedBy found (now (addresses .entry)) ⌝ }
+{
+    let LookUp::Found { port: _, place } = found else {
+        return;
+    };
+    addresses[place] = numbers::marked_number(addresses[place]);
+}
+
+// Learns the key at the place that a look-up found before. Answers whether there was a place.
+pub fn learn(addresses: &mut [u64], source: LookUp, key: u64, port: u32) -> bool
+    requires { ⌜ placeOf source < length (now addresses) ⌝ }
+    requires { ⌜ (key < 2 ^ 52) × (port ≤ 4) ⌝ }
+    ensures { λ r. ⌜ (r, now (addresses .exit)) ≡ learnedBy source key port (now (addresses .entry)) ⌝ }
+{
+    match source {
+        LookUp::Found { port: _, place } => {
+            if numbers::is_static(addresses[place]) {
+                return true;
+            }
+            addresses[place] = numbers::learned_number(key, port);
+            true
+        }
+        LookUp::Vacant(place) => {
+            addresses[place] = numbers::learned_number(key, port);
+            true
+        }
+        LookUp::Full => false,
+        LookUp::Damaged => false,
+    }
+}
+
+// "A match becomes static with the given port, no match takes the first empty place."
+pub fn set_static(addresses: &mut [u64], found: LookUp, key: u64, port: u32)
+    requires { ⌜ placeOf found < length (now addresses) ⌝ }
+    requires { ⌜ (key < 2 ^ 52) × (port ≤ 4) ⌝ }
+    ensures { λ _. ⌜ now (addresses .exit) ≡ staticBy found key port (now (addresses .entry)) ⌝ }
+{
+    match found {
+        LookUp::Found { port: _, place } => {
+            addresses[place] = numbers::static_number(key, port);
+        }
+        LookUp::Vacant(place) => {
+            addresses[place] = numbers::static_number(key, port);
+        }
+        LookUp::Full => {}
+        LookUp::Damaged => {}
+    }
+}
+
+// "Any entry, learned or static, is removed by call, and its place is used again."
+pub fn remove(addresses: &mut [u64], found: LookUp)
+    requires { ⌜ placeOf found < length (now addresses) ⌝ }
+    ensures { λ _. ⌜ now (addresses .exit) ≡ removedBy found (now (addresses .entry)) ⌝ }
+{
+    let LookUp::Found { port: _, place } = found else {
+        return;
+    };
+    addresses[place] = 0;
+}
+
+// Is every place in range? Ageing asks before its first write.
+pub fn all_in_range(addresses: &[u64]) -> bool
+    ensures { λ r. ⌜ r ≡ allInRange (now (addresses .entry)) ⌝ }
+{
+    let mut place = 0;
+    while place < addresses.len() {
+        if numbers::in_range(addresses[place]) {
+            place += 1;
+        } else {
+            return false;
+        }
+    }
+    true
+}
+
+// "Every unmarked non-static entry goes, every marked non-static one loses its mark." Answers how many went.
+pub fn age(addresses: &mut [u64]) -> u32
+    requires { ⌜ length (now addresses) ≡ 4112 ⌝ }
+    ensures { λ r. ⌜ (r, now (addresses .exit)) ≡ agedBy (now (addresses .entry)) ⌝ }
+{
+    let mut gone = 0;
+    let mut place = 0;
+    while place < 4112 {
+        let number = addresses[place];
+        gone += numbers::goes(number);
+        addresses[place] = numbers::older_number(number);
+        place += 1;
+    }
+    gone
+}
+
+// "No address known."
+pub fn forget_all(addresses: &mut [u64])
+    ensures { λ _. ⌜ now (addresses .exit) ≡ replicate (length (now (addresses .entry))) 0 ⌝ }
+{
+    let mut place = 0;
+    while place < addresses.len() {
+        addresses[place] = 0;
+        place += 1;
+    }
+}
