@@ -1,6 +1,6 @@
 -- The proofs of the theorems about the machine.
 mod Steps
-mod Waits
+pub mod Waits
 mod Queues
 mod Counters
 mod Room
