@@ -2,3 +2,7 @@
 pub mod Linked
 pub mod Reading
 pub mod Traffic
+pub mod Pushes
+pub mod Arrivals
+pub mod Masks
+pub mod Departures

@@ -197,6 +197,11 @@ unfolding keepId changed
 keep-each [] i h t = t
 keep-each (p ∷ ps) i h t = also h t
 
+keep-some : {P : ℕ → Type 0} (ps : List ℕ) (i : ℕ) {later : List ℕ} → ((m : ℕ) (ms : List ℕ) → ps ≡ m ∷ ms → P i) → Each P later → Each P (keepId ps i later)
+unfolding keepId
+keep-some [] i h t = t
+keep-some (p ∷ ps) i h t = also (h p ps refl) t
+
 module _ (n : ℕ) (l : Links) (ws : List Waiting) (S : Stands n l ws) (p q i : ℕ) (hp : p < 5) (hq : q < 4) (tail : List ℕ) (head : l .ring p q ≡ i ∷ tail) where
   sp : Split (λ j. waitsAt p q (l .held j)) (S .ids) i tail
   sp = split (λ j. waitsAt p q (l .held j)) (S .ids) i tail (sym (S .rings p q hp hq) ∙ head)
@@ -317,11 +322,12 @@ module _ (n : ℕ) (l : Links) (ws : List Waiting) (S : Stands n l ws) (p q i : 
   stands-out = record { ids = B ++ keepId left i L; holds = out-holds; rows = out-rows; rings = out-rings; cells = out-cells; room = out-room }
 
   -- what holds of the frames that stay: of those that were there, and of i where a port is left to it
-  pub out-each : {P Q : ℕ → Type 0} → Each Q (S .ids) → (Q i → P i) → ((d : ℕ) → eqb i d ≡ false → Q d → P d) → Each P (stands-out .ids)
-  unfolding stands-out changed
+  pub out-each : {P Q : ℕ → Type 0} → Each Q (S .ids) → ((m : ℕ) (ms : List ℕ) → left ≡ m ∷ ms → Q i → P i) → ((d : ℕ) → eqb i d ≡ false → Q d → P d) → Each P (stands-out .ids)
+  unfolding stands-out
   out-each {P} {Q} all one other =
       let every : Each Q (B ++ (i ∷ L)) = rw (sp .whole) at all in
+      let at-i : Q i = each-first (each-back B (i ∷ L) every) in
       each-append
       (each-map (λ d h. other d (h .0) (h .1)) (each-zip not-B (each-front B (i ∷ L) every)))
-      (keep-each left i (one (each-first (each-back B (i ∷ L) every)))
+      (keep-some left i (λ m ms e. one m ms e at-i)
       (each-map (λ d h. other d (h .0) (h .1)) (each-zip not-L (each-back (i ∷ []) L (each-back B (i ∷ L) every)))))
