@@ -30,7 +30,8 @@ use Rattle.queues.specs.Rings.{countOf, ringOf}
 use Rattle.queues.proofs.Entries.{ring-same}
 use Rattle.queues.proofs.Answers.{length-ring}
 use Rattle.standing.specs.Links.{Links, Stands, linkIn}
-use Rattle.standing.specs.LinkTraffic.{linksIn, WaitsAs, LinkTraffic, pushedAt}
+use Rattle.frame_in.specs.Call.{pushedAt}
+use Rattle.standing.specs.LinkTraffic.{linksIn, WaitsAs, LinkTraffic}
 use Rattle.standing.proofs.Linked.{Not, stands-in, others}
 use Rattle.standing.proofs.Reading.{Same, stands-same}
 use Rattle.standing.proofs.Pushes.{Ready, pushed-length, pushed-cells-all, pushed-rings, pushed-oldest-all}
@@ -75,54 +76,54 @@ module _ (n : ℕ) (links : List ℕ) (ws : List Waiting) (T : LinkTraffic n lin
   module _ (f : Frame) (p₀ : ℕ) (ps : List ℕ) (enough : size f ≤ freeCount links) (low : f .queue < 4)
       (inside : Each (λ (p : ℕ). p ≤ 4) (p₀ ∷ ps)) (distinct : Distinct (p₀ ∷ ps))
       (ascending : p₀ ∷ ps ≡ sift (λ p. among p (p₀ ∷ ps)) allPorts) (somewhere : 1 ≤ mask (p₀ ∷ ps)) (few : size f ≤ cells longest) where
-    abbrev ports : List ℕ
+    abbrev pub ports : List ℕ
     ports = p₀ ∷ ps
 
-    abbrev i : ℕ
+    abbrev pub i : ℕ
     i = firstFree links
 
-    abbrev more : List ℕ
+    abbrev pub more : List ℕ
     more = follow links (size f - 1) (next links i)
 
-    abbrev rest : List ℕ
+    abbrev pub rest : List ℕ
     rest = follow links (freeCount links - size f) (walk links (size f) i)
 
-    abbrev m₀ : List ℕ
+    abbrev pub m₀ : List ℕ
     m₀ = taken (size f) (mask ports) links
 
     abbrev pub after : List ℕ
     after = pushedAt n (f .queue) i ports m₀
 
-    some : 1 ≤ size f
+    pub some : 1 ≤ size f
     unfolding size
     some = omega arith
 
-    row-is : follow links (size f) i ≡ i ∷ more
+    pub row-is : follow links (size f) i ≡ i ∷ more
     row-is = ap (λ (k : ℕ). follow links k i) (let z : size f ≡ suc (size f - 1) = omega (arith, some) in z)
 
-    taking-k : Taking n (size f) links
+    pub taking-k : Taking n (size f) links
     taking-k = taking n (size f) links some (room-enough n links (T .sound) (size f) enough)
 
-    cut : l .free ≡ (i ∷ more) ++ rest
+    pub cut : l .free ≡ (i ∷ more) ++ rest
     unfolding linksIn
     cut =
         ap (λ (k : ℕ). follow links k i) (let z : freeCount links ≡ size f + (freeCount links - size f) = omega arith in z)
         ∙ follow-split links (size f) (freeCount links - size f) i
         ∙ ap (_++ rest) row-is
 
-    fit : suc (length more) ≡ size f
+    pub fit : suc (length more) ≡ size f
     fit = omega (arith, length-follow links (size f - 1) (next links i), some)
 
-    arrived : Stands n (linkIn f ports rest i more l) (join f ports ws)
+    unfoldable pub arrived : Stands n (linkIn f ports rest i more l) (join f ports ws)
     arrived = stands-in n l ws (T .stands) f p₀ ps rest i more cut fit
 
-    cells-same : CellsSame m₀ after
+    pub cells-same : CellsSame m₀ after
     cells-same = pushed-cells-all n (f .queue) i low inside m₀
 
-    free-is : freeCells after ≡ rest
+    pub free-is : freeCells after ≡ rest
     free-is = same-free cells-same ∙ free-taken n (size f) (mask ports) links (T .long) some somewhere taking-k (T .sound)
 
-    ready : Each (Ready n (f .queue) m₀) ports
+    pub ready : Each (Ready n (f .queue) m₀) ports
     ready = each-map (λ p h. ready-at p h) inside
       where
         ready-at : (p : ℕ) → p ≤ 4 → Ready n (f .queue) m₀ p
@@ -134,47 +135,47 @@ module _ (n : ℕ) (links : List ℕ) (ws : List Waiting) (T : LinkTraffic n lin
               count = rw (same .count) (omega (arith, ring-fits p (f .queue) h low, free-room, some));
             }
 
-    rings-are : (p q : ℕ) → p < 5 → q < 4 → ringOf n after (ringOfQueue p q)
+    pub rings-are : (p q : ℕ) → p < 5 → q < 4 → ringOf n after (ringOfQueue p q)
         ≡ (if among p ports && eqb q (f .queue) then ringOf n links (ringOfQueue p q) ++ (i ∷ []) else ringOf n links (ringOfQueue p q))
     rings-are p q hp hq =
         pushed-rings n (f .queue) i low ports m₀ (rw (length-taken (size f) (mask ports) links) (T .long)) distinct ready p q (omega arith) hq
         ∙ rw (ring-same n (taken-ring (size f) (mask ports) links (ringOfQueue p q) (omega arith)))
 
     -- the new frame's row, and the others'
-    row-new : frameCells after i ≡ i ∷ more
+    pub row-new : frameCells after i ≡ i ∷ more
     row-new = same-frame cells-same i ∙ taken-cells n (size f) (mask ports) links (T .long) some somewhere taking-k (T .sound) ∙ row-is
 
-    row-other : (j : ℕ) → eqb i j ≡ false → frameCells after j ≡ frameCells links j
+    pub row-other : (j : ℕ) → eqb i j ≡ false → frameCells after j ≡ frameCells links j
     row-other j ne =
         same-frame cells-same j
         ∙ taken-follow (size f) (mask ports) links (sizeOf m₀ j) j
         ∙ ap (λ (k : ℕ). follow links k j) (taken-size-other (size f) (mask ports) links j (λ e. eqb-false i j ne (sym e)))
 
-    held′ : ℕ → Waiting
+    unfoldable pub held′ : ℕ → Waiting
     held′ = changed i (record { frame = f; ports = ports }) (T .held)
 
-    apart : Not i (T .stands .ids)
+    pub apart : Not i (T .stands .ids)
     apart = others n l ws (T .stands) f p₀ ps rest i more cut fit
 
-    same-rows : Each (Same (linksIn n after held′) (linkIn f ports rest i more l)) (arrived .ids)
+    pub same-rows : Each (Same (linksIn n after held′) (linkIn f ports rest i more l)) (arrived .ids)
     unfolding arrived stands-in linksIn linkIn held′ changed
     same-rows =
         each-append
         (each-map (λ j h. (rw h (row-other j h), refl)) apart)
         (also (rw (eqb-self i) row-new, refl) nobody)
 
-    stands-after : Stands n (linksIn n after held′) (join f ports ws)
+    unfoldable pub stands-after : Stands n (linksIn n after held′) (join f ports ws)
     unfolding linksIn linkIn
     stands-after =
         stands-same n (linkIn f ports rest i more l) (linksIn n after held′) (join f ports ws) arrived free-is rings-are same-rows
 
-    ports-new : portsOf after i ≡ mask ports
+    pub ports-new : portsOf after i ≡ mask ports
     ports-new = cells-same .ports i ∙ taken-ports (size f) (mask ports) links n (T .long) (T .sound .first)
 
-    ports-other : (j : ℕ) → eqb i j ≡ false → portsOf after j ≡ portsOf links j
+    pub ports-other : (j : ℕ) → eqb i j ≡ false → portsOf after j ≡ portsOf links j
     ports-other j ne = cells-same .ports j ∙ taken-ports-other (size f) (mask ports) links j (λ e. eqb-false i j ne (sym e))
 
-    waits-after : Each (λ (c : ℕ). WaitsAs n after c (held′ c)) (stands-after .ids)
+    pub waits-after : Each (λ (c : ℕ). WaitsAs n after c (held′ c)) (stands-after .ids)
     unfolding stands-after stands-same arrived stands-in held′ changed
     waits-after =
         each-append
@@ -185,7 +186,7 @@ module _ (n : ℕ) (links : List ℕ) (ws : List Waiting) (T : LinkTraffic n lin
         kept j ne h = record { below = h .below; somewhere = h .somewhere; ascending = h .ascending; said = ports-other j ne ∙ h .said; few = h .few }
 
     -- link memory after the arrival stands for the traffic with the frame at its end
-    pub traffic-after : LinkTraffic n after (join f ports ws)
+    unfoldable pub traffic-after : LinkTraffic n after (join f ports ws)
     traffic-after =
         record {
           held = held′;

@@ -31,7 +31,8 @@ use Rattle.queues.proofs.Apart.{popped-cells, popped-ring}
 use Rattle.queues.proofs.Answers.{length-ring}
 use Rattle.queues.proofs.Wraps.{wrap-in}
 use Rattle.standing.specs.Links.{Links, Stands, freed, linkOut}
-use Rattle.standing.specs.LinkTraffic.{linksIn, WaitsAs, LinkTraffic, departed}
+use Rattle.take_out.specs.Leaving.{isLast, departed}
+use Rattle.standing.specs.LinkTraffic.{linksIn, WaitsAs, LinkTraffic}
 use Rattle.standing.proofs.Linked.{stands-out, out-each}
 use Rattle.standing.proofs.Reading.{Same, stands-same}
 use Rattle.standing.proofs.Masks.{mask-without, mask-left, last-is, ascending-without, ascending-distinct, ascending-mask}
@@ -70,40 +71,40 @@ sift-head {P} t x tail (also {a = y} {rest = ys} h hs) e =
 
 module _ (n : ℕ) (links : List ℕ) (ws : List Waiting) (T : LinkTraffic n links ws) (p q i : ℕ) (hp : p < 5) (hq : q < 4)
     (tail : List ℕ) (head : ringOf n links (ringOfQueue p q) ≡ i ∷ tail) where
-  abbrev l : Links
+  abbrev pub l : Links
   l = linksIn n links (T .held)
 
-  abbrev w : Waiting
+  abbrev pub w : Waiting
   w = T .held i
 
-  abbrev left : List ℕ
+  abbrev pub left : List ℕ
   left = without p (w .ports)
 
-  head′ : l .ring p q ≡ i ∷ tail
+  pub head′ : l .ring p q ≡ i ∷ tail
   unfolding linksIn
   head′ = head
 
-  heads : sift (λ j. waitsAt p q (T .held j)) (T .stands .ids) ≡ i ∷ tail
+  pub heads : sift (λ j. waitsAt p q (T .held j)) (T .stands .ids) ≡ i ∷ tail
   unfolding linksIn
   heads = sym (T .stands .rings p q hp hq) ∙ head
 
-  waits-i : WaitsAs n links i w
+  pub waits-i : WaitsAs n links i w
   waits-i = sift-head (λ j. waitsAt p q (T .held j)) i tail (T .waits) heads .0
 
-  at-port : among p (w .ports) ≡ true
+  pub at-port : among p (w .ports) ≡ true
   at-port = waits-port p q w (sift-head (λ j. waitsAt p q (T .held j)) i tail (T .waits) heads .1)
 
-  size-i : sizeOf links i ≡ size (w .frame)
+  pub size-i : sizeOf links i ≡ size (w .frame)
   unfolding linksIn
   size-i = sym (length-follow links (sizeOf links i) i) ∙ sift-head (λ j. waitsAt p q (T .held j)) i tail (T .stands .rows) heads .0 .sized
 
-  waits-some : 1 ≤ portsOf links i
+  pub waits-some : 1 ≤ portsOf links i
   waits-some = rw (waits-i .said) (waits-i .somewhere)
 
-  distinct-i : Distinct (w .ports)
+  pub distinct-i : Distinct (w .ports)
   distinct-i = ascending-distinct (w .ports) (waits-i .ascending)
 
-  frame-i : Frame n i links
+  pub frame-i : Frame n i links
   frame-i =
       frame n i links
       (frame-is n links (T .sound) i (waits-i .below) waits-some
@@ -113,34 +114,34 @@ module _ (n : ℕ) (links : List ℕ) (ws : List Waiting) (T : LinkTraffic n lin
 
   -- ---- the frame departs
 
-  abbrev D : List ℕ
+  abbrev pub D : List ℕ
   D = departed p i links
 
-  last-test : eqb (portsOf links i) (2 ^ p) ≡ isNone left
+  pub last-test : eqb (portsOf links i) (2 ^ p) ≡ isNone left
   last-test = rw (waits-i .said) (last-is p (w .ports) distinct-i at-port)
 
-  given : left ≡ [] → D ≡ givenBack i links
-  unfolding departed isNone
+  pub given : left ≡ [] → D ≡ givenBack i links
+  unfolding departed isLast isNone
   given e = rw (last-test, e)
 
-  kept : (m : ℕ) (ms : List ℕ) → left ≡ m ∷ ms → D ≡ set links (portsWord i) (portsOf links i - 2 ^ p)
-  unfolding departed isNone
+  pub kept : (m : ℕ) (ms : List ℕ) → left ≡ m ∷ ms → D ≡ set links (portsWord i) (portsOf links i - 2 ^ p)
+  unfolding departed isLast isNone
   kept m ms e = rw (last-test, e)
 
-  fewer : portsOf links i - 2 ^ p ≡ mask left
+  pub fewer : portsOf links i - 2 ^ p ≡ mask left
   fewer = omega (arith, waits-i .said, mask-without p (w .ports) distinct-i at-port)
 
-  D-free : freeCells D ≡ freed left (frameCells links i) (freeCells links)
+  pub D-free : freeCells D ≡ freed left (frameCells links i) (freeCells links)
   unfolding freed
   D-free =
       onList left
       (λ e. rw (given e, e) (free-given n i links (T .long) (waits-i .below) frame-i (T .sound)))
       (λ m ms e. rw (kept m ms e, e) (ports-free links i (portsOf links i - 2 ^ p)))
 
-  D-row-i : (m : ℕ) (ms : List ℕ) → left ≡ m ∷ ms → frameCells D i ≡ frameCells links i
+  pub D-row-i : (m : ℕ) (ms : List ℕ) → left ≡ m ∷ ms → frameCells D i ≡ frameCells links i
   D-row-i m ms e = rw (kept m ms e) (ports-frame links i (portsOf links i - 2 ^ p) i)
 
-  D-row : (j : ℕ) → eqb i j ≡ false → WaitsAs n links j (T .held j) → frameCells D j ≡ frameCells links j
+  pub D-row : (j : ℕ) → eqb i j ≡ false → WaitsAs n links j (T .held j) → frameCells D j ≡ frameCells links j
   D-row j ne h =
       let apart : j ≡ i → ⊥ = λ z. eqb-false i j ne (sym z) in
       let some : 1 ≤ portsOf links j = rw (h .said) (h .somewhere) in
@@ -152,30 +153,30 @@ module _ (n : ℕ) (links : List ℕ) (ws : List Waiting) (T : LinkTraffic n lin
       ∙ waiting-some links j some))
       (λ m ms e. rw (kept m ms e) (ports-frame links i (portsOf links i - 2 ^ p) j))
 
-  D-ports-i : (m : ℕ) (ms : List ℕ) → left ≡ m ∷ ms → portsOf D i ≡ mask left
+  pub D-ports-i : (m : ℕ) (ms : List ℕ) → left ≡ m ∷ ms → portsOf D i ≡ mask left
   D-ports-i m ms e =
       rw (kept m ms e) (getD-set-same links (portsWord i) (portsOf links i - 2 ^ p) 0 (omega (arith, T .long, waits-i .below)) ∙ fewer)
 
-  D-ports : (j : ℕ) → eqb i j ≡ false → portsOf D j ≡ portsOf links j
+  pub D-ports : (j : ℕ) → eqb i j ≡ false → portsOf D j ≡ portsOf links j
   D-ports j ne =
       let apart : j ≡ i → ⊥ = λ z. eqb-false i j ne (sym z) in
       onList left
       (λ e. rw (given e) (given-ports-other i links j apart))
       (λ m ms e. rw (kept m ms e) (ports-word links i (portsOf links i - 2 ^ p) (portsWord j) (λ z. apart (omega arith))))
 
-  D-ring : (r : ℕ) → r < 20 → RingSame r links D
+  pub D-ring : (r : ℕ) → r < 20 → RingSame r links D
   D-ring r hr =
       onList left
       (λ e. rw (given e) (given-ring i links r hr))
       (λ m ms e. rw (kept m ms e) (ports-ring i links (portsOf links i - 2 ^ p) r hr))
 
-  D-length : length D ≡ length links
+  pub D-length : length D ≡ length links
   D-length =
       onList left
       (λ e. rw (given e) (length-given i links))
       (λ m ms e. rw (kept m ms e) (length-set links (portsWord i) (portsOf links i - 2 ^ p)))
 
-  D-sound : Sound n D
+  pub D-sound : Sound n D
   D-sound =
       onList left
       (λ e. rw (given e) (given-sound n i links (T .long) (waits-i .below) frame-i (T .sound)))
@@ -186,16 +187,16 @@ module _ (n : ℕ) (links : List ℕ) (ws : List Waiting) (T : LinkTraffic n lin
   abbrev pub after : List ℕ
   after = popped n (ringOfQueue p q) D
 
-  ring-index : ringOfQueue p q < 20
+  pub ring-index : ringOfQueue p q < 20
   ring-index = omega arith
 
-  cells-same : CellsSame D after
+  pub cells-same : CellsSame D after
   cells-same = popped-cells n (ringOfQueue p q) D ring-index
 
-  counted : 1 ≤ countOf D (ringOfQueue p q)
+  pub counted : 1 ≤ countOf D (ringOfQueue p q)
   counted = omega (arith, D-ring (ringOfQueue p q) ring-index .count, length-ring n (ringOfQueue p q) links, ap length head)
 
-  rings-are : (r s : ℕ) → r < 5 → s < 4 → ringOf n after (ringOfQueue r s) ≡ (if eqb p r && eqb q s then tail else ringOf n links (ringOfQueue r s))
+  pub rings-are : (r s : ℕ) → r < 5 → s < 4 → ringOf n after (ringOfQueue r s) ≡ (if eqb p r && eqb q s then tail else ringOf n links (ringOfQueue r s))
   rings-are r s hr hs =
       on (eqb p r)
       (λ e. let same : p ≡ r = eqb-true p r e in
@@ -214,13 +215,13 @@ module _ (n : ℕ) (links : List ℕ) (ws : List Waiting) (T : LinkTraffic n lin
 
   -- ---- link memory stands for the traffic without the copy
 
-  held′ : ℕ → Waiting
+  unfoldable pub held′ : ℕ → Waiting
   held′ = changed i (record { frame = w .frame; ports = left }) (T .held)
 
-  left-stands : Stands n (linkOut p q i tail l) (send p q ws)
+  unfoldable pub left-stands : Stands n (linkOut p q i tail l) (send p q ws)
   left-stands = stands-out n l ws (T .stands) p q i hp hq tail head′
 
-  same-rows : Each (Same (linksIn n after held′) (linkOut p q i tail l)) (left-stands .ids)
+  pub same-rows : Each (Same (linksIn n after held′) (linkOut p q i tail l)) (left-stands .ids)
   unfolding linksIn linkOut held′ left-stands changed
   same-rows =
       out-each n l ws (T .stands) p q i hp hq tail head′ {P = Same (linksIn n after held′) (linkOut p q i tail l)} {Q = λ (j : ℕ). WaitsAs n links j (T .held j)}
@@ -228,12 +229,12 @@ module _ (n : ℕ) (links : List ℕ) (ws : List Waiting) (T : LinkTraffic n lin
       (λ m ms e h. (same-frame cells-same i ∙ D-row-i m ms e, refl))
       (λ j ne h. (same-frame cells-same j ∙ D-row j ne h, refl))
 
-  stands-after : Stands n (linksIn n after held′) (send p q ws)
+  unfoldable pub stands-after : Stands n (linksIn n after held′) (send p q ws)
   unfolding linksIn linkOut
   stands-after =
       stands-same n (linkOut p q i tail l) (linksIn n after held′) (send p q ws) left-stands (same-free cells-same ∙ D-free) rings-are same-rows
 
-  waits-after : Each (λ (c : ℕ). WaitsAs n after c (held′ c)) (stands-after .ids)
+  pub waits-after : Each (λ (c : ℕ). WaitsAs n after c (held′ c)) (stands-after .ids)
   unfolding stands-after stands-same left-stands held′ changed
   waits-after =
       out-each n l ws (T .stands) p q i hp hq tail head′ {P = λ (c : ℕ). WaitsAs n after c (held′ c)} {Q = λ (j : ℕ). WaitsAs n links j (T .held j)}
@@ -255,7 +256,7 @@ module _ (n : ℕ) (links : List ℕ) (ws : List Waiting) (T : LinkTraffic n lin
       goes-on j ne h =
           record { below = h .below; somewhere = h .somewhere; ascending = h .ascending; said = cells-same .ports j ∙ D-ports j ne ∙ h .said; few = h .few }
 
-  oldest-after : (r : ℕ) → r < 20 → oldestPlace after r < n
+  pub oldest-after : (r : ℕ) → r < 20 → oldestPlace after r < n
   unfolding popped
   oldest-after r hr =
       on (eqb r (ringOfQueue p q))
@@ -267,7 +268,7 @@ module _ (n : ℕ) (links : List ℕ) (ws : List Waiting) (T : LinkTraffic n lin
       (wrap-in n (oldestPlace D (ringOfQueue p q) + 1) (omega arith))))
       (λ e. rw (popped-ring n (ringOfQueue p q) D ring-index r hr (eqb-false r (ringOfQueue p q) e) .oldest ∙ D-ring r hr .oldest) (T .oldest r hr))
 
-  pub traffic-after : LinkTraffic n after (send p q ws)
+  unfoldable pub traffic-after : LinkTraffic n after (send p q ws)
   traffic-after =
       record {
         held = held′;

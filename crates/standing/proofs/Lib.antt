@@ -6,3 +6,6 @@ pub mod Pushes
 pub mod Arrivals
 pub mod Masks
 pub mod Departures
+pub mod Storing
+pub mod Frames
+pub mod Fresh

@@ -16,7 +16,7 @@ use Rattle.layout.proofs.Stores.{settings-then, cells-then}
 use Rattle.queues.specs.Rings.{oldestPlace, countOf, ringOf, wrap, pushed}
 use Rattle.queues.proofs.Entries.{ring-same, ring-pushed, length-pushed}
 use Rattle.queues.proofs.Apart.{pushed-settings, pushed-cells, pushed-ring}
-use Rattle.standing.specs.LinkTraffic.{pushedAt}
+use Rattle.frame_in.specs.Call.{pushedAt}
 
 -- a port whose ring of this queue has room
 pub record Ready (n queue : ℕ) (links : List ℕ) (p : ℕ) : Type 0 where

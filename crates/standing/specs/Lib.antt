@@ -1,3 +1,4 @@
 pub mod Links
 pub mod TrafficTheorems
 pub mod LinkTraffic
+pub mod Traffic

@@ -1,19 +1,18 @@
 -- How link memory stands for the waiting traffic: the free list, the chains and the rings are read as links. A frame's queue is the one
 -- in whose rings it stands, so `held` is told by the rings and not by a word. Assumes nothing: these are definitions.
-use Prim.Native.Nat.{ℕ, _-_, _^_, _≤_, _<_}
+use Prim.Native.Nat.{ℕ, _≤_, _<_}
 use mathlib.Core.Path.{_≡_}
-use mathlib.Core.List.{List, [], _∷_}
-use lib.Dec.{eqb}
-use lib.ListN.{length, set}
-use Rattle.rules.specs.Choice.{if_then_else_, sift, among, Each}
+use mathlib.Core.List.{List}
+use lib.ListN.{length}
+use Rattle.rules.specs.Choice.{sift, among, Each}
 use Rattle.rules.specs.PortTests.{allPorts}
 use Rattle.rules.specs.Cells.{cells, longest}
 use Rattle.machine.specs.Waiting.{Waiting, size}
 use Rattle.machine.specs.FrameIn.{mask}
-use Rattle.layout.specs.Places.{linkWords, ringOfQueue, portsWord}
-use Rattle.cells.specs.Free.{portsOf, freeCells, frameCells, givenBack}
+use Rattle.layout.specs.Places.{linkWords, ringOfQueue}
+use Rattle.cells.specs.Free.{portsOf, freeCells, frameCells}
 use Rattle.cells.specs.Sound.{Sound}
-use Rattle.queues.specs.Rings.{oldestPlace, ringOf, pushed}
+use Rattle.queues.specs.Rings.{oldestPlace, ringOf}
 use Rattle.standing.specs.Links.{Links, Stands}
 
 unfoldable pub linksIn : ℕ → List ℕ → (ℕ → Waiting) → Links
@@ -35,13 +34,3 @@ pub record LinkTraffic (n : ℕ) (links : List ℕ) (ws : List Waiting) : Type 0
   pub long : linkWords n ≤ length links
   pub sound : Sound n links
   pub oldest : (r : ℕ) → r < 20 → oldestPlace links r < n
-
--- the first cell of a new frame joins the queue of each port, in order
-unfoldable pub pushedAt : ℕ → ℕ → ℕ → List ℕ → List ℕ → List ℕ
-pushedAt n queue cell [] links = links
-pushedAt n queue cell (r ∷ rs) links = pushedAt n queue cell rs (pushed n (ringOfQueue r queue) cell links)
-
--- a copy of the frame whose first cell is c leaves a port: "its cells are free when its last copy is sent or drained"
-unfoldable pub departed : ℕ → ℕ → List ℕ → List ℕ
-departed port c links =
-    if eqb (portsOf links c) (2 ^ port) then givenBack c links else set links (portsWord c) (portsOf links c - 2 ^ port)

@@ -1,0 +1,139 @@
+/* speed MODE LENGTH PORTS ADDRESSES TURNS: one turn is a frame in and its takes. MODE: `switch`, the library; `cells`, plain C that
+ * copies a frame into 80-byte cells and out again for each port, without switching; `copy`, a memcpy in and out; `none`, the loop alone.
+ * PORTS is 1 (a known address) or 4 (a broadcast). bench/run counts the instructions of two lengths of run and divides the difference. */
+#include <gufhrandi.h>
+#include <stdio.h>
+#include <stdlib.h>
+#include <string.h>
+
+enum { CELLS = 200, LINK_WORDS = 640 + 24 * CELLS };
+
+static uint8_t cells[GUFHRANDI_CELL * CELLS];
+static uint32_t links[LINK_WORDS];
+static uint64_t addresses[GUFHRANDI_PLACES];
+static uint8_t frame[4096], out[4096];
+static unsigned long sum;
+
+#define LENT cells, sizeof cells, links, LINK_WORDS, addresses, GUFHRANDI_PLACES
+
+/* ---- plain cells: a free list by next numbers, a count of ports in the first cell */
+
+static uint16_t next_cell[CELLS], first_free;
+static uint8_t left[CELLS];
+
+static void start_cells(void)
+{
+    for (int c = 0; c < CELLS; c++)
+        next_cell[c] = (uint16_t)(c + 1);
+}
+
+static uint16_t store_cells(const uint8_t *from, size_t length, uint32_t ports)
+{
+    uint16_t first = first_free, at = first;
+    uint16_t header[4] = {(uint16_t)length, 0, 0, 0};
+    size_t room = GUFHRANDI_CELL - sizeof header;
+    memcpy(cells + GUFHRANDI_CELL * at, header, sizeof header);
+    size_t part = length < room ? length : room;
+    memcpy(cells + GUFHRANDI_CELL * at + sizeof header, from, part);
+    for (size_t done = part; done < length; done += part) {
+        at = next_cell[at];
+        part = length - done < GUFHRANDI_CELL ? length - done : GUFHRANDI_CELL;
+        memcpy(cells + GUFHRANDI_CELL * at, from + done, part);
+    }
+    first_free = next_cell[at];
+    left[first] = (uint8_t)ports;
+    return first;
+}
+
+static size_t load_cells(uint16_t first, uint8_t *to)
+{
+    uint16_t header[4], at = first;
+    memcpy(header, cells + GUFHRANDI_CELL * at, sizeof header);
+    size_t length = header[0], room = GUFHRANDI_CELL - sizeof header;
+    size_t part = length < room ? length : room;
+    memcpy(to, cells + GUFHRANDI_CELL * at + sizeof header, part);
+    for (size_t done = part; done < length; done += part) {
+        at = next_cell[at];
+        part = length - done < GUFHRANDI_CELL ? length - done : GUFHRANDI_CELL;
+        memcpy(to + done, cells + GUFHRANDI_CELL * at, part);
+    }
+    if (--left[first] == 0) {
+        next_cell[at] = first_free;
+        first_free = first;
+    }
+    return length;
+}
+
+/* ---- one turn of each mode */
+
+static void by_switch(size_t length, uint32_t ports)
+{
+    sum += gufhrandi_frame_in(LENT, 0, frame, length).y;
+    for (uint32_t port = 1; port <= ports; port++)
+        sum += gufhrandi_take(cells, sizeof cells, links, LINK_WORDS, port, out, sizeof out).x;
+}
+
+static void by_cells(size_t length, uint32_t ports)
+{
+    uint16_t first = store_cells(frame, length, ports);
+    for (uint32_t port = 1; port <= ports; port++)
+        sum += load_cells(first, out);
+}
+
+static void by_copy(size_t length, uint32_t ports)
+{
+    memcpy(cells, frame, length);
+    __asm__ volatile("" ::: "memory");
+    for (uint32_t port = 1; port <= ports; port++) {
+        memcpy(out, cells, length);
+        __asm__ volatile("" ::: "memory");
+    }
+    sum += length;
+}
+
+static void by_none(size_t length, uint32_t ports) { sum += length + ports; }
+
+static void address(uint8_t *at, unsigned long number)
+{
+    memset(at, 0, 6);
+    at[0] = 2;
+    at[4] = (uint8_t)(number / 256);
+    at[5] = (uint8_t)(number % 256);
+}
+
+int main(int count, char **words)
+{
+    if (count != 6)
+        return 2;
+    const char *mode = words[1];
+    size_t length = strtoul(words[2], NULL, 10);
+    uint32_t ports = (uint32_t)strtoul(words[3], NULL, 10);
+    unsigned long known = strtoul(words[4], NULL, 10), turns = strtoul(words[5], NULL, 10);
+    void (*turn)(size_t, uint32_t) = !strcmp(mode, "switch") ? by_switch : !strcmp(mode, "cells") ? by_cells
+                                   : !strcmp(mode, "copy") ? by_copy : by_none;
+    if (length < 60 || length > 4083 || (ports != 1 && ports != 4) || known < 1)
+        return 2;
+    start_cells();
+    if (turn == by_switch) {
+        if (gufhrandi_fresh(LENT).refusal != 0)
+            return 1;
+        for (unsigned long a = 0; a < known; a++) {
+            address(frame, 0xFFFF);
+            address(frame + 6, a);
+            if (gufhrandi_frame_in(LENT, 1, frame, 60).refusal != 0)
+                return 1;
+            for (uint32_t port = 0; port < 5; port++)
+                gufhrandi_drain(links, LINK_WORDS, port);
+        }
+    }
+    address(frame + 6, 0xFFFE);
+    for (unsigned long i = 0; i < turns; i++) {
+        if (ports == 4)
+            memset(frame, 0xFF, 6);
+        else
+            address(frame, i % known);
+        turn(length, ports);
+    }
+    printf("%lu\n", sum);
+    return 0;
+}

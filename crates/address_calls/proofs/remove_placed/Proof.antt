@@ -1,0 +1,78 @@
+-- `address_calls::remove_placed` meets its contract. Assumes nothing.
+use mathlib.Core.Path.{sym, _∙_}
+use native.Mathlib.Omega.{arith}
+use Rattle.rules.specs.Refusals.{refusalNumber}
+use Rattle.address_calls.proofs.Outcomes.{found-inside, remove-missing, remove-damaged, remove-removed}
+use borrow.Author.Needs.{needs}
+use Rattle.address_calls.proofs.remove_placed.Statement.{statement}
+use Rattle.address_calls.proofs.remove_placed.Tie as tie
+
+look-up-requires : tie.Need-look-up-requires
+look-up-requires c κs = search needs
+
+is-missing-requires : tie.Need-is-missing-requires
+is-missing-requires c κs = search needs
+
+refused-requires : tie.Need-refused-requires
+refused-requires c κs = search needs
+
+same-length : tie.Need-same-length
+same-length c = search needs
+
+returns : tie.Need-returns
+unfolding refusalNumber
+returns c =
+    let s = c .before .before in
+    remove-missing _ _ (s .before .look-up .ensures) (sym (s .is-missing .ensures) ∙ c .before .if1 .taken) (c .refused .ensures)
+
+is-damaged-requires : tie.Need-is-damaged-requires
+is-damaged-requires c κs = search needs
+
+refused-requires-2 : tie.Need-refused-requires-2
+refused-requires-2 c κs = search needs
+
+same-length-2 : tie.Need-same-length-2
+same-length-2 c = search needs
+
+returns-2 : tie.Need-returns-2
+unfolding refusalNumber
+returns-2 c =
+    let s = c .before .before in
+    let f = s .before in
+    remove-damaged _ _ (f .before .before .look-up .ensures) (sym (f .before .is-missing .ensures) ∙ f .if1 .left)
+    (sym (s .is-damaged .ensures) ∙ c .before .if2 .taken) (c .refused2 .ensures)
+
+remove-requires : tie.Need-remove-requires
+remove-requires c κs = found-inside _ _ (c .before .before .before .before .before .look-up .ensures) (omega arith)
+
+done-requires : tie.Need-done-requires
+done-requires c κs = search needs
+
+same-length-3 : tie.Need-same-length-3
+same-length-3 c = search needs
+
+returns-3 : tie.Need-returns-3
+returns-3 c =
+    let s = c .before .before .before in
+    let d = s .before .before in
+    let f = d .before .before in
+    remove-removed _ _ (f .before .before .look-up .ensures) (sym (f .before .is-missing .ensures) ∙ f .if1 .left) (sym (d .before .is-damaged .ensures) ∙ d .if2 .left)
+    (s .remove .ensures) (c .done .ensures)
+
+pub remove-placed-spec : {M : Type 1} → statement M
+remove-placed-spec =
+    tie.close
+    (tie.spec
+    look-up-requires
+    is-missing-requires
+    refused-requires
+    same-length
+    returns
+    is-damaged-requires
+    refused-requires-2
+    same-length-2
+    returns-2
+    remove-requires
+    done-requires
+    same-length-3
+    returns-3)

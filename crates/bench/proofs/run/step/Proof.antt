@@ -1,0 +1,122 @@
+-- `bench::run::step` is safe: a whole record lies in what was read. Assumes nothing.
+use Prim.Native.Nat.{_+_, _≤_}
+use mathlib.Core.Path.{sym, _∙_}
+use native.Mathlib.Omega.{arith}
+use borrow.Author.Needs.{needs}
+use Rattle.records.proofs.Cutting.{framing}
+use Rattle.bench.specs.Steady.{Steady, left-length}
+use Rattle.bench.proofs.run.step.Statement.{statement}
+use Rattle.bench.proofs.run.step.Tie as tie
+
+sub-next-in : tie.Need-sub-next-in
+sub-next-in c = search needs
+
+part-next-in-start : tie.Need-part-next-in-start
+part-next-in-start c = search needs
+
+part-next-in-end : tie.Need-part-next-in-end
+part-next-in-end c = search needs
+
+next-in-requires : tie.Need-next-in-requires
+next-in-requires c κs = search needs
+
+enum-told : tie.Need-enum-told
+enum-told c = search needs
+
+refill-requires : tie.Need-refill-requires
+refill-requires c κs = search needs
+
+enum-told-2 : tie.Need-enum-told-2
+enum-told-2 c = search needs
+
+stopped-requires : tie.Need-stopped-requires
+stopped-requires c κs = search needs
+
+enum-told-3 : tie.Need-enum-told-3
+enum-told-3 c = search needs
+
+cut-requires : tie.Need-cut-requires
+cut-requires c κs = search needs
+
+enum-known-next : tie.Need-enum-known-next
+enum-known-next c = search needs
+
+carry-out-requires : tie.Need-carry-out-requires
+carry-out-requires c κs = let a = c .before .before .before .before .before .before .before .before .before .before .before .before .before .before .before .before .before .before .args in let there = framing .whole-is-there _ _ _ (sym (c .before .before .before .before .before .before .before .before .before .next-in .ensures) ∙ c .before .before .before .before .before .before .before .next .given .1) in omega (arith, c .before .before .before .before .before .before .before .before .before .before .before .before .before .before .before .before .before .before .pre, left-length (a .input .now) (a .p .at) (a .p .end) (omega (arith, c .before .before .before .before .before .before .before .before .before .before .before .before .before .before .before .before .before .before .pre)) (omega (arith, c .before .before .before .before .before .before .before .before .before .before .before .before .before .before .before .before .before .before .pre)), there)
+
+same-length : tie.Need-same-length
+same-length c = search needs
+
+same-length-2 : tie.Need-same-length-2
+same-length-2 c = search needs
+
+returns : tie.Need-returns
+returns c = search needs
+
+same-length-3 : tie.Need-same-length-3
+same-length-3 c = search needs
+
+returns-2 : tie.Need-returns-2
+returns-2 c = rw (c .stopped .ensures) (omega (arith, c .before .before .before .before .before .before .before .before .before .before .before .before .pre))
+
+same-length-4 : tie.Need-same-length-4
+same-length-4 c = search needs
+
+same-length-5 : tie.Need-same-length-5
+same-length-5 c = search needs
+
+returns-3 : tie.Need-returns-3
+returns-3 c = search needs
+
+same-length-6 : tie.Need-same-length-6
+same-length-6 c = search needs
+
+same-length-7 : tie.Need-same-length-7
+same-length-7 c = search needs
+
+same-length-8 : tie.Need-same-length-8
+same-length-8 c = search needs
+
+same-length-9 : tie.Need-same-length-9
+same-length-9 c = search needs
+
+same-length-10 : tie.Need-same-length-10
+same-length-10 c = search needs
+
+same-length-11 : tie.Need-same-length-11
+same-length-11 c = search needs
+
+returns-4 : tie.Need-returns-4
+returns-4 c = search needs
+
+pub step-spec : {M : Type 1} → statement M
+step-spec =
+    tie.close
+    (tie.spec
+    sub-next-in
+    part-next-in-start
+    part-next-in-end
+    next-in-requires
+    enum-told
+    refill-requires
+    enum-told-2
+    stopped-requires
+    enum-told-3
+    cut-requires
+    enum-known-next
+    carry-out-requires
+    same-length
+    same-length-2
+    returns
+    same-length-3
+    returns-2
+    same-length-4
+    same-length-5
+    returns-3
+    same-length-6
+    same-length-7
+    same-length-8
+    same-length-9
+    same-length-10
+    same-length-11
+    returns-4)

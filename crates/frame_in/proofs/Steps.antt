@@ -1,0 +1,226 @@
+-- From stage to stage of the judgement, and the outcomes of each. Assumes nothing.
+use Prim.Native.Nat.{ℕ, _≤_, _<_}
+use mathlib.Core.Path.{_≡_, refl, sym, ap, subst, _∙_}
+use mathlib.Core.Bool.{Bool, true, false, _&&_, not}
+use mathlib.Core.List.{List}
+use mathlib.Core.Option.{Option, none, some}
+use native.Mathlib.Omega.{arith}
+use borrow.Author.Tests.{ltb-false, le-leb, lt-leb}
+use lib.Dec.{eqb, ltb}
+use lib.ListN.{length, getD}
+use Rattle.rules.specs.Choice.{if_then_else_}
+use Rattle.rules.specs.Lines.{first}
+use Rattle.rules.specs.Tags.{headerOf, destination}
+use Rattle.rules.specs.Reasons.{Reason, reasonNumber}
+use Rattle.rules.specs.Settings.{Port, noOperation}
+use Rattle.rules.specs.PortTests.{bpduTest}
+use Rattle.rules.specs.Arguments.{flag, portInRange, portOf}
+use Rattle.rules.specs.Arrival.{offer, Verdict, isBpdu, originFor, earlyRules, arrivalRules, dropped, unless, bpduFrame, bpduVerdict, vlanVerdict, decide}
+use Rattle.rules.proofs.Choice.{on}
+use Rattle.machine.specs.CallTheorems.{outcomeNumber}
+use Rattle.layout.specs.Places.{bpduWord}
+use Rattle.settings.specs.Records.{portIs, portAt}
+use Rattle.settings.specs.SettingsOf.{settingsOf, bpduOf}
+use Rattle.settings.specs.Words.{wordWithin}
+use Rattle.settings.specs.declared.port.PortSettings.{PortSettings}
+use Rattle.settings.specs.declared.table.Found.the-variants.{Damaged}
+use Rattle.settings.specs.declared.word.Word.the-variants.{Within}
+use Rattle.settings.specs.declared.word.Word.the-variants as Words
+use Rattle.addresses.specs.Numbers.{tableOf}
+use Rattle.frame_in.specs.declared.arrival.Arrival.{Arrival}
+use Rattle.frame_in.specs.declared.plan.Tests.{Tests}
+use Rattle.frame_in.specs.declared.plan.Offer.{Offer}
+use Rattle.frame_in.specs.Plans.{noLesson, damagedPlan, dropPlan}
+use Rattle.frame_in.specs.Stored.{kindNumber, typeNumber, sourceNumber, flagNumber, headerWord, operationByte, storedHeader}
+use Rattle.frame_in.specs.Arrivals.{ArrivalIs}
+use Rattle.frame_in.specs.Candidates.{bpduNumbers, anyDamaged}
+use Rattle.frame_in.specs.Room.{metRoom, offered}
+use Rattle.frame_in.specs.Met.{unlessDropped, metFrame, metBpdu, metPort, met}
+use Rattle.frame_in.specs.Call.{verdictOf, isNothing, isLearned}
+use Rattle.frame_in.specs.Judged.{Lent, Judged, Way}
+use Rattle.frame_in.specs.Stages.{packet, PastEarly, AsBpdu, Ordinary}
+use Rattle.frame_in.proofs.States.{header-word}
+use Rattle.frame_in.proofs.CandidateTests.{within-is, damaged-word}
+use Rattle.frame_in.proofs.TestNumbers.{port-is, bpdu-numbers-are}
+use Rattle.frame_in.proofs.Judgements.{never-zero, Taught, damaged-judged, nothing-taught, offer-judged, drop-judged}
+
+-- ---- a reason, or none
+
+some-not-none : {r : Reason} → some r ≡ none → ⊥
+some-not-none e = let z : _≡_ {A = ℕ} 0 1 = cc in omega arith
+
+pub onReason : {C : Type 0} (o : Option Reason) (k : ℕ) → k ≡ outcomeNumber o → 0 < k → ((r : Reason) → o ≡ some r → k ≡ reasonNumber r → C) → C
+onReason none k e h f = absurd (omega arith)
+onReason (some r) k e h f = f r refl e
+
+pub no-reason : (o : Option Reason) (k : ℕ) → k ≡ outcomeNumber o → k ≤ 0 → o ≡ none
+no-reason none k e h = refl
+no-reason (some r) k e h = absurd (never-zero r (sym e ∙ omega arith))
+
+zero-word : headerWord (record { pcp = 0; dei = 0; vid = 0 }) ≡ 0
+unfolding headerWord
+zero-word = refl
+
+module _ (links addresses frame : List ℕ) (n port : ℕ) where
+  pub way-on : {m m′ : Bool} {v v′ : Verdict} {l l′ : Bool} → Way links addresses frame n port m v l → m ≡ m′ → v ≡ v′ → l ≡ l′ → Way links addresses frame n port m′ v′ l′
+  way-on w a b c =
+      record {
+        lent = w .lent;
+        shortest = w .shortest;
+        longest = w .longest;
+        meets-is = w .meets-is ∙ a;
+        verdict-is = w .verdict-is ∙ b;
+        learns-is = w .learns-is ∙ c;
+      }
+
+  -- ---- 1 to 3
+
+  early-met : (r : Reason) → first (earlyRules frame) ≡ some r → met links addresses port frame ≡ false
+  unfolding met unlessDropped
+  early-met r e = rw e
+
+  early-verdict : (r : Reason) → first (earlyRules frame) ≡ some r → verdictOf links addresses port frame ≡ dropped r (tableOf addresses)
+  unfolding verdictOf decide unless
+  early-verdict r e = rw e
+
+  early-learns : (r : Reason) → first (earlyRules frame) ≡ some r → isLearned (settingsOf links) port frame ≡ false
+  unfolding isLearned isNothing
+  early-learns r e = rw e
+
+  pub early-judged : (k : ℕ) → Lent links addresses n port → k ≡ outcomeNumber (first (earlyRules frame)) → 0 < k → Judged links addresses frame n port (dropPlan k)
+  early-judged k lent e h =
+      onReason (first (earlyRules frame)) k e h
+      (λ r o q. drop-judged links addresses frame n port lent r k q (early-met r o) (early-verdict r o) (early-learns r o))
+
+  record Lengths : Type 0 where
+    shortest : 60 ≤ length frame
+    longest : length frame ≤ 4083
+
+  lengths : first (earlyRules frame) ≡ none → Lengths
+  unfolding earlyRules first
+  lengths e =
+      on (ltb (length frame) 60)
+      (λ a. absurd (some-not-none (rw a at e)))
+      (λ a. on (ltb 4083 (length frame))
+      (λ b. absurd (some-not-none (rw (a, b) at e)))
+      (λ b. record { shortest = ltb-false _ _ a; longest = ltb-false _ _ b }))
+
+  past-met : first (earlyRules frame) ≡ none → met links addresses port frame ≡ metPort links addresses port frame
+  unfolding met unlessDropped
+  past-met e = rw e
+
+  past-verdict : first (earlyRules frame) ≡ none → verdictOf links addresses port frame
+      ≡ (if isBpdu (settingsOf links) port frame then bpduVerdict (settingsOf links) (tableOf addresses) port (packet frame)
+      else unless (first (arrivalRules (settingsOf links) port frame)) (tableOf addresses) (vlanVerdict (settingsOf links) (tableOf addresses) port (packet frame)))
+  unfolding verdictOf decide unless
+  past-verdict e = rw e
+
+  past-learns : first (earlyRules frame) ≡ none → isLearned (settingsOf links) port frame
+      ≡ (if isBpdu (settingsOf links) port frame then false else isNothing (first (arrivalRules (settingsOf links) port frame)))
+  unfolding isLearned isNothing
+  past-learns e = rw e (on (isBpdu (settingsOf links) port frame) (λ b. rw b) (λ b. rw b))
+
+  pub past-early : (k : ℕ) → Lent links addresses n port → k ≡ outcomeNumber (first (earlyRules frame)) → k ≤ 0 → PastEarly links addresses frame n port
+  past-early k lent e h =
+      let o = no-reason (first (earlyRules frame)) k e h in
+      record {
+        way = record {
+          lent = lent;
+          shortest = lengths o .shortest;
+          longest = lengths o .longest;
+          meets-is = past-met o;
+          verdict-is = past-verdict o;
+          learns-is = past-learns o;
+        };
+      }
+
+  -- ---- the arrival port, and BPDUs
+
+  module _ (p : PastEarly links addresses frame n port) (settings : PortSettings) (read : portIs settings ≡ portAt links port) where
+    pub port-damaged : portInRange (portIs settings) ≡ false → Judged links addresses frame n port damagedPlan
+    unfolding metPort
+    port-damaged e =
+        damaged-judged links addresses frame n port (p .way .lent) (p .way .meets-is ∙ rw (ap portInRange (sym read) ∙ e))
+
+    pub handling-damaged : portInRange (portIs settings) ≡ true → Words.Damaged ≡ wordWithin links bpduWord 1 → Judged links addresses frame n port damagedPlan
+    unfolding metPort
+    handling-damaged e w =
+        damaged-judged links addresses frame n port (p .way .lent)
+        (p .way .meets-is ∙ rw (ap portInRange (sym read) ∙ e, lt-leb (getD links bpduWord 0) 1 (damaged-word links bpduWord 1 w)))
+
+    settings-are : settingsOf links .port port ≡ portOf (portIs settings)
+    settings-are = port-is links port (omega (arith, p .way .lent .port-there)) ∙ ap portOf (sym read)
+
+    module _ (good : portInRange (portIs settings) ≡ true) (handling : ℕ) (word : Within handling ≡ wordWithin links bpduWord 1) where
+      bpdu-is : isBpdu (settingsOf links) port frame ≡ (flag handling && not (eqb port 4) && eqb (destination frame) 0x0180_C200_0000)
+      unfolding isBpdu settingsOf bpduOf
+      bpdu-is = ap (λ (x : ℕ). flag x && not (eqb port 4) && eqb (destination frame) 0x0180_C200_0000) (sym (within-is links bpduWord 1 handling word .word))
+
+      port-meets : metPort links addresses port frame ≡ (if isBpdu (settingsOf links) port frame then metBpdu links frame else metFrame links addresses port frame)
+      unfolding metPort
+      port-meets = rw (ap portInRange (sym read) ∙ good, le-leb (getD links bpduWord 0) 1 (within-is links bpduWord 1 handling word .small))
+
+      module _ (b : Bool) (test : b ≡ (flag handling && not (eqb port 4) && eqb (destination frame) 0x0180_C200_0000)) where
+        is-b : (x : Bool) → b ≡ x → isBpdu (settingsOf links) port frame ≡ x
+        is-b x e = bpdu-is ∙ sym test ∙ e
+
+        pub as-bpdu : (default : ℕ) → headerOf default ≡ portOf (portIs settings) .default → b ≡ true → AsBpdu links addresses frame n port default
+        as-bpdu default d e =
+            record {
+              way = way-on (p .way) (port-meets ∙ rw (is-b true e)) (rw (is-b true e)) (rw (is-b true e));
+              default-is = d ∙ ap (λ (x : Port). x .default) (sym settings-are);
+            }
+
+        pub as-ordinary : (arrival : Arrival) → ArrivalIs (portOf (portIs settings)) frame arrival → b ≡ false → Ordinary links addresses frame n port arrival
+        as-ordinary arrival a e =
+            record {
+              way = way-on (p .way) (port-meets ∙ rw (is-b false e)) (rw (is-b false e)) (rw (is-b false e));
+              arrival-is = subst (λ (x : Port). ArrivalIs x frame arrival) (sym settings-are) a;
+            }
+
+  -- ---- a BPDU
+
+  module _ (default : ℕ) (a : AsBpdu links addresses frame n port default) (t : Tests) (tests-are : t ≡ bpduNumbers links) where
+    pub bpdu-damaged : anyDamaged t ≡ true → Judged links addresses frame n port damagedPlan
+    unfolding metBpdu
+    bpdu-damaged e =
+        damaged-judged links addresses frame n port (a .way .lent) (a .way .meets-is ∙ rw (ap anyDamaged (sym tests-are) ∙ e))
+
+    abbrev bpduOffer : Offer
+    bpduOffer = record { tests = t; queue = 3; header = record { length = length frame; default = default; operation = 160; exempt = 1; header = 0 } }
+
+    bpdu-default : default ≡ headerWord (settingsOf links .port port .default)
+    bpdu-default = header-word default ∙ ap headerWord (a .default-is)
+
+    bpdu-header : bpduOffer .header ≡ storedHeader (bpduFrame (settingsOf links) port (packet frame))
+    unfolding storedHeader bpduFrame originFor noOperation operationByte kindNumber typeNumber sourceNumber flagNumber
+    bpdu-header = rw (bpdu-default, zero-word)
+
+    bpdu-meets : anyDamaged t ≡ false → met links addresses port frame ≡ metRoom n links (length frame) 3 t
+    unfolding metBpdu
+    bpdu-meets e =
+        a .way .meets-is
+        ∙ rw (ap anyDamaged (sym tests-are) ∙ e)
+        (ap (λ (c : ℕ). metRoom c links (length frame) 3 (bpduNumbers links)) (sym (a .way .lent .count)) ∙ ap (metRoom n links (length frame) 3) (sym tests-are))
+
+    bpdu-fate : bpduVerdict (settingsOf links) (tableOf addresses) port (packet frame) .fate ≡ offer (bpduFrame (settingsOf links) port (packet frame)) (bpduTest (settingsOf links))
+    unfolding bpduVerdict
+    bpdu-fate = refl
+
+    bpdu-taught : Taught links addresses frame port noLesson (bpduVerdict (settingsOf links) (tableOf addresses) port (packet frame) .notLearned)
+    unfolding bpduVerdict
+    bpdu-taught = nothing-taught links addresses frame n port (a .way .lent) (a .way .learns-is)
+
+    bpdu-queue : 3 ≡ bpduFrame (settingsOf links) port (packet frame) .queue
+    unfolding bpduFrame
+    bpdu-queue = refl
+
+    bpdu-bytes : bpduFrame (settingsOf links) port (packet frame) .packet .bytes ≡ frame
+    unfolding bpduFrame
+    bpdu-bytes = refl
+
+    pub bpdu-offered : anyDamaged t ≡ false → Judged links addresses frame n port (offered n links (length frame) noLesson bpduOffer)
+    bpdu-offered e =
+        offer-judged links addresses frame n port (a .way .lent) (bpduVerdict (settingsOf links) (tableOf addresses) port (packet frame)) (a .way .verdict-is)
+        (bpduFrame (settingsOf links) port (packet frame)) (bpduTest (settingsOf links)) bpdu-fate noLesson bpduOffer bpdu-taught
+        (tests-are ∙ bpdu-numbers-are links (ap anyDamaged (sym tests-are) ∙ e)) bpdu-queue (omega arith) bpdu-header bpdu-bytes (a .way .longest) (bpdu-meets e)

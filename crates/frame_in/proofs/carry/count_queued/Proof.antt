@@ -1,0 +1,21 @@
+-- `frame_in::carry::count_queued` meets its contract. Assumes nothing.
+use mathlib.Core.Path.{_∙_}
+use Rattle.frame_in.proofs.Carries.{count-left, count-not-left}
+use borrow.Author.Needs.{needs}
+use Rattle.frame_in.proofs.carry.count_queued.Statement.{statement}
+use Rattle.frame_in.proofs.carry.count_queued.Tie as tie
+
+bump-requires : tie.Need-bump-requires
+bump-requires c κs = search needs
+
+same-length : tie.Need-same-length
+same-length c = search needs
+
+returns : tie.Need-returns
+returns c = c .before .before .bump .ensures ∙ count-left _ _ _ (c .before .before .before .before .if1 .taken)
+
+returns-2 : tie.Need-returns-2
+returns-2 c = count-not-left _ _ _ (c .if1 .left)
+
+pub count-queued-spec : {M : Type 1} → statement M
+count-queued-spec = tie.close (tie.spec bump-requires same-length returns returns-2)

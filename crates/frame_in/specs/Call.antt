@@ -1,0 +1,104 @@
+-- What a frame-in does: the rules' verdict, the machine's outcome and events, and what they make of each memory.
+-- Assumes nothing: these are definitions.
+use Prim.Native.Nat.{ℕ, _+_}
+use mathlib.Core.Bool.{Bool, true, false, _&&_, not}
+use mathlib.Core.List.{List, [], _∷_, _++_}
+use mathlib.Core.Option.{Option, none, some}
+use lib.Dec.{ltb}
+use Rattle.rules.specs.Choice.{if_then_else_}
+use Rattle.rules.specs.Lines.{first}
+use Rattle.rules.specs.Tags.{destination, source}
+use Rattle.rules.specs.Reasons.{reasonNumber}
+use Rattle.rules.specs.Settings.{Settings}
+use Rattle.rules.specs.Addresses.{key}
+use Rattle.rules.specs.Arrival.{Frame, Verdict, isBpdu, vlanFor, earlyRules, arrivalRules, decide}
+use Rattle.rules.specs.Refusals.{frameInLines}
+use Rattle.machine.specs.Waiting.{size}
+use Rattle.machine.specs.FrameIn.{mask, Outcome, drops, queues, outcomeOf, frameInEvents}
+use Rattle.layout.specs.Places.{ringOfQueue}
+use Rattle.lent.specs.declared.Answer.{Answer}
+use Rattle.lent.specs.Lengths.{cellCount, linksFit, cellsFit, addressesFit}
+use Rattle.lent.specs.Answers.{doneWith, lengthLine, damageLine, orRefused}
+use Rattle.settings.specs.SettingsOf.{settingsOf}
+use Rattle.addresses.specs.Numbers.{tableOf}
+use Rattle.addresses.specs.Search.{lookUp}
+use Rattle.addresses.specs.Writes.{markedBy, learnedBy}
+use Rattle.cells.specs.Chains.{follow}
+use Rattle.cells.specs.Bytes.{storeCells}
+use Rattle.cells.specs.Stored.{storedBytes}
+use Rattle.cells.specs.Free.{freeCount, firstFree, taken}
+use Rattle.queues.specs.Rings.{pushed}
+use Rattle.frame_in.specs.Stored.{storedHeader}
+use Rattle.frame_in.specs.Candidates.{destinationLookUp}
+use Rattle.frame_in.specs.Counting.{counted}
+use Rattle.frame_in.specs.Met.{met}
+
+abbrev pub Memories : Type 0
+Memories = List ℕ × List ℕ × List ℕ
+
+-- ---- what is decided
+
+unfoldable pub verdictOf : List ℕ → List ℕ → ℕ → List ℕ → Verdict
+verdictOf links addresses port frame = decide (settingsOf links) (tableOf addresses) port (record { bytes = frame })
+
+unfoldable pub outcomeFor : List ℕ → Verdict → Outcome
+outcomeFor links v = outcomeOf (λ (f : Frame). ltb (freeCount links) (size f)) (v .fate)
+
+-- ---- cell and link memory: the frame's cells and rings, then the counters
+
+unfoldable pub storedFor : Outcome → List ℕ → List ℕ → List ℕ
+storedFor (drops r) links memory = memory
+storedFor (queues f ports) links memory =
+    storeCells memory (follow links (size f) (firstFree links)) (storedBytes (storedHeader f) ++ f .packet .bytes)
+
+-- the first cell joins the queue of each port, in ascending order
+unfoldable pub pushedAt : ℕ → ℕ → ℕ → List ℕ → List ℕ → List ℕ
+pushedAt n queue cell [] links = links
+pushedAt n queue cell (r ∷ rs) links = pushedAt n queue cell rs (pushed n (ringOfQueue r queue) cell links)
+
+unfoldable pub joinedFor : ℕ → Outcome → List ℕ → List ℕ
+joinedFor n (drops r) links = links
+joinedFor n (queues f ports) links = pushedAt n (f .queue) (firstFree links) ports (taken (size f) (mask ports) links)
+
+-- ---- address memory
+
+unfoldable pub isNothing : {A : Type 0} → Option A → Bool
+isNothing none = true
+isNothing (some a) = false
+
+-- no reason of 1 to 9 holds, and the frame is no BPDU
+unfoldable pub isLearned : Settings → ℕ → List ℕ → Bool
+isLearned s port frame =
+    isNothing (first (earlyRules frame)) && (not (isBpdu s port frame) && isNothing (first (arrivalRules s port frame)))
+
+-- "a hit marks the entry as used; the source is then learned"
+unfoldable pub lessonIn : List ℕ → ℕ → ℕ → List ℕ → Bool × List ℕ
+lessonIn addresses gid port frame =
+    learnedBy (lookUp addresses (key gid (source frame))) (key gid (source frame)) port
+    (markedBy (destinationLookUp addresses gid (destination frame)) addresses)
+
+unfoldable pub learnedIn : List ℕ → List ℕ → ℕ → List ℕ → List ℕ
+learnedIn links addresses port frame =
+    if isLearned (settingsOf links) port frame
+    then lessonIn addresses (vlanFor (settingsOf links) port frame .gid) port frame .1
+    else addresses
+
+-- ---- the call
+
+unfoldable pub answerFor : Outcome → Answer
+answerFor (drops r) = doneWith (reasonNumber r) 0
+answerFor (queues f ports) = doneWith 0 (mask ports)
+
+unfoldable pub enteredAs : Verdict → Outcome → ℕ → List ℕ → List ℕ → List ℕ → List ℕ → Answer × Memories
+enteredAs v o port frame memory links addresses =
+    (answerFor o, (storedFor o links memory, counted (frameInEvents port v o) (joinedFor (cellCount links) o links), learnedIn links addresses port frame))
+
+unfoldable pub entered : ℕ → List ℕ → List ℕ → List ℕ → List ℕ → Answer × Memories
+entered port frame memory links addresses =
+    enteredAs (verdictOf links addresses port frame) (outcomeFor links (verdictOf links addresses port frame)) port frame memory links addresses
+
+unfoldable pub frameInCall : List ℕ → List ℕ → List ℕ → ℕ → List ℕ → Answer × Memories
+frameInCall memory links addresses port frame =
+    orRefused (first (lengthLine (linksFit links && (cellsFit memory links && addressesFit addresses)) ∷ (frameInLines port ++ (damageLine (met links addresses port frame) ∷ []))))
+    (memory, links, addresses)
+    (entered port frame memory links addresses)

@@ -1,0 +1,13 @@
+pub mod Stored
+pub mod Counting
+pub mod Plans
+pub mod Arrivals
+pub mod Candidates
+pub mod Room
+pub mod Carried
+pub mod Met
+pub mod Call
+pub mod Judged
+pub mod Stages
+pub mod InRange
+pub mod Theorems

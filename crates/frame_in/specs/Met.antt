@@ -1,0 +1,79 @@
+-- The layout paper, "What a call reads, for refusal 10": is a field out of its range met on a frame-in's way?
+-- Assumes nothing: these are definitions.
+use Prim.Native.Nat.{ℕ}
+use mathlib.Core.Bool.{Bool, true, false, _||_, not}
+use mathlib.Core.List.{List}
+use mathlib.Core.Option.{Option, none, some}
+use lib.Dec.{leb}
+use lib.ListN.{length, getD}
+use Rattle.rules.specs.Choice.{if_then_else_}
+use Rattle.rules.specs.Lines.{first}
+use Rattle.rules.specs.Tags.{destination, source, tagsOf}
+use Rattle.rules.specs.Reasons.{Reason}
+use Rattle.rules.specs.Settings.{isLearning}
+use Rattle.rules.specs.Addresses.{key}
+use Rattle.rules.specs.Arguments.{VlanNumbers, bit, portInRange, vlanInRange}
+use Rattle.rules.specs.Arrival.{isBpdu, vidOf, queueFor, earlyRules}
+use Rattle.layout.specs.Places.{bpduWord}
+use Rattle.lent.specs.Lengths.{cellCount}
+use Rattle.settings.specs.Records.{portAt, vlanAt}
+use Rattle.settings.specs.Table.{foundVlan}
+use Rattle.settings.specs.SettingsOf.{settingsOf}
+use Rattle.settings.specs.declared.table.Found.{Found}
+use Rattle.settings.specs.declared.table.Found.the-variants.{At, Nowhere, Damaged}
+use Rattle.addresses.specs.Search.{lookUp, damaged}
+use Rattle.frame_in.specs.declared.plan.Tests.{Tests}
+use Rattle.frame_in.specs.Arrivals.{portRules}
+use Rattle.frame_in.specs.Candidates.{destinationLookUp, chosenPort, numbersAt, bpduNumbers, anyDamaged}
+use Rattle.frame_in.specs.Room.{metRoom}
+
+-- nothing is met past a reason
+unfoldable pub unlessDropped : Option Reason → Bool → Bool
+unlessDropped none met = met
+unlessDropped (some r) met = false
+
+-- the tests of the candidate ports; past 10, with a port left, the room
+unfoldable pub metTests : List ℕ → ℕ → List ℕ → ℕ → Tests → Bool
+metTests links port frame queue tests =
+    anyDamaged tests
+    || (if isLearning (settingsOf links .port port .state) then false else metRoom (cellCount links) links (length frame) queue tests)
+
+-- past reason 9: both searches, the queue of the PCP, then the candidates
+unfoldable pub metMember : List ℕ → List ℕ → ℕ → List ℕ → VlanNumbers → Bool
+metMember links addresses port frame v =
+    damaged (destinationLookUp addresses (v .gid) (destination frame))
+    || (damaged (lookUp addresses (key (v .gid) (source frame)))
+    || (not (leb (queueFor (settingsOf links) port frame) 3)
+    || metTests links port frame (queueFor (settingsOf links) port frame)
+    (numbersAt links (v .members) (chosenPort (destinationLookUp addresses (v .gid) (destination frame))) port (queueFor (settingsOf links) port frame))))
+
+-- the entry of the VID, its whole record
+unfoldable pub metEntry : List ℕ → List ℕ → ℕ → List ℕ → VlanNumbers → Bool
+metEntry links addresses port frame v =
+    not (vlanInRange v) || (if bit (v .members) port then metMember links addresses port frame v else false)
+
+-- past reason 6: the VLANs in use and the VIDs of the entries from 0 on to the one of the VID
+unfoldable pub metTable : List ℕ → List ℕ → ℕ → List ℕ → Found → Bool
+metTable links addresses port frame Damaged = true
+metTable links addresses port frame Nowhere = false
+metTable links addresses port frame (At e) = metEntry links addresses port frame (vlanAt links e)
+
+unfoldable pub metFrame : List ℕ → List ℕ → ℕ → List ℕ → Bool
+metFrame links addresses port frame =
+    unlessDropped (first (portRules (settingsOf links .port port) (length (tagsOf frame))))
+    (metTable links addresses port frame (foundVlan links (vidOf (settingsOf links) port frame)))
+
+-- a BPDU: the switch of queue 3 of port 4, then the room
+unfoldable pub metBpdu : List ℕ → List ℕ → Bool
+metBpdu links frame =
+    anyDamaged (bpduNumbers links) || metRoom (cellCount links) links (length frame) 3 (bpduNumbers links)
+
+-- past reason 3: the arrival port's record and BPDU handling
+unfoldable pub metPort : List ℕ → List ℕ → ℕ → List ℕ → Bool
+metPort links addresses port frame =
+    not (portInRange (portAt links port))
+    || (not (leb (getD links bpduWord 0) 1)
+    || (if isBpdu (settingsOf links) port frame then metBpdu links frame else metFrame links addresses port frame))
+
+unfoldable pub met : List ℕ → List ℕ → ℕ → List ℕ → Bool
+met links addresses port frame = unlessDropped (first (earlyRules frame)) (metPort links addresses port frame)

@@ -1,0 +1,47 @@
+// The call frame-in: a frame that arrives at a port.
+pub mod plan; // what is decided before the first write
+pub mod arrival; // rules 1 to 9
+pub mod candidates; // each port's test
+pub mod room; // rules 12 and 13
+pub mod judge; // the rules in document 01's order
+pub mod carry; // the writes
+
+ghost use mathlib.Core.Path.{_≡_};
+ghost use mathlib.Core.Bool.{_&&_};
+ghost use Rattle.lent.specs.Lengths.{linksFit, cellsFit, addressesFit};
+ghost use Rattle.frame_in.specs.Call.{frameInCall};
+use lent::Answer;
+
+// Have the memories the lengths that the fresh call got?
+fn fits(cells: &[u8], links: &[u32], addresses: &[u64]) -> bool
+    ensures { λ r. ⌜ r ≡ (linksFit (now (links .entry)) && (cellsFit (now (cells .entry)) (now (links .entry)) && addressesFit (now (addresses .entry)))) ⌝ }
+{
+    if lent::links_fit(links) {
+        return lent::cells_fit(cells, links) & lent::addresses_fit(addresses);
+    }
+    false
+}
+
+// A frame arrives at a port. x: 0 if it is queued, else the reason from 1 to 13; y: the mask of the ports it is queued at.
+pub fn frame_in(
+    cells: &mut [u8],
+    links: &mut [u32],
+    addresses: &mut [u64],
+    port: u32,
+    frame: &[u8],
+) -> Answer
+    ensures { λ r. ⌜ (r, (now (cells .exit), now (links .exit), now (addresses .exit))) ≡ frameInCall (now (cells .entry)) (now (links .entry)) (now (addresses .entry)) port (now (frame .entry)) ⌝ }
+{
+    if fits(cells, links, addresses) {
+        if 4 < port {
+            return lent::refused(2);
+        }
+        let n = links[layout::CELL_COUNT] as usize;
+        let plan = judge::judge(links, addresses, n, port, frame);
+        if plan.damaged {
+            return lent::refused(10);
+        }
+        return carry::carry_out(cells, links, addresses, n, port, frame, plan);
+    }
+    lent::refused(1)
+}

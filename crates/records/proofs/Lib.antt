@@ -1,0 +1,2 @@
+-- The proofs of the theorems about records.
+pub mod Cutting

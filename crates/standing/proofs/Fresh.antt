@@ -1,0 +1,87 @@
+-- A fresh switch's memory stands for no traffic: all cells are free. Assumes nothing.
+use Prim.Native.Nat.{ℕ, zero, suc, _≤_, _<_}
+use mathlib.Core.Path.{_≡_, refl, ap, _∙_}
+use mathlib.Core.Bool.{Bool, true, false}
+use mathlib.Core.List.{List, [], _∷_}
+use native.Mathlib.Omega.{arith}
+use lib.Dec.{eqb, ltb}
+use lib.ListN.{length}
+use Rattle.rules.specs.Choice.{if_then_else_, sift, nobody}
+use Rattle.rules.specs.Settings.{noOperation}
+use Rattle.rules.proofs.Choice.{on, eqb-sym}
+use Rattle.machine.specs.Waiting.{Waiting, used}
+use Rattle.layout.specs.Places.{linkWords, cellBytes, ringOfQueue}
+use Rattle.cells.specs.Chains.{count, one}
+use Rattle.cells.specs.Free.{freeCount, firstFree, freeCells}
+use Rattle.cells.specs.Sound.{allWaiting, Sound, FreshCells}
+use Rattle.cells.proofs.Paths.{length-follow}
+use Rattle.cells.proofs.Kept.{waiting-none}
+use Rattle.cells.proofs.Fresh.{fresh-sound}
+use Rattle.queues.specs.Rings.{oldestPlace, countOf, ringOf}
+use Rattle.standing.specs.Links.{times, rowsOf, Stands}
+use Rattle.standing.specs.LinkTraffic.{linksIn}
+use Rattle.standing.specs.Traffic.{Traffic}
+
+times-is-count : (c : ℕ) (xs : List ℕ) → times c xs ≡ count c xs
+unfolding times
+times-is-count c [] = refl
+times-is-count c (x ∷ xs) =
+    on (eqb c x)
+    (λ e. rw (e, eqb-sym x c ∙ e) (omega (arith, times-is-count c xs)))
+    (λ e. rw (e, eqb-sym x c ∙ e) (omega (arith, times-is-count c xs)))
+
+one-is : (b : Bool) → one b ≡ (if b then 1 else 0)
+one-is true = refl
+one-is false = refl
+
+module _ (n : ℕ) (links : List ℕ) (some : 1 ≤ n) (long : linkWords n ≤ length links) (fresh : FreshCells n links)
+    (oldest : (r : ℕ) → r < 20 → oldestPlace links r ≡ 0) (empty : (r : ℕ) → r < 20 → countOf links r ≡ 0) where
+  -- no frame waits, so nobody asks what is held of one
+  nobody-waits : ℕ → Waiting
+  nobody-waits c =
+      record {
+        frame = record {
+          packet = record { bytes = [] };
+          origin = record { tags = []; default = record { pcp = 0; dei = 0; vid = 0 } };
+          vlanOperation = noOperation;
+          exempt = true;
+          queue = 0;
+        };
+        ports = [];
+      }
+
+  none-waiting : (m : ℕ) → m ≤ n → allWaiting links m ≡ []
+  unfolding allWaiting
+  none-waiting zero h = refl
+  none-waiting (suc m) h = rw (none-waiting m (omega arith), waiting-none links m (fresh .ports m (omega arith)))
+
+  sound : Sound n links
+  sound = fresh-sound n links fresh some
+
+  stands : Stands n (linksIn n links nobody-waits) []
+  unfolding linksIn rowsOf times used ringOf sift
+  stands =
+      record {
+        ids = [];
+        holds = refl;
+        rows = nobody;
+        rings = λ p q hp hq. rw (empty (ringOfQueue p q) (omega arith));
+        cells = λ c. omega (arith, times-is-count c (freeCells links), sound .once c, ap (count c) (none-waiting n (omega arith)), one-is (ltb c n));
+        room = omega (arith, length-follow links (freeCount links) (firstFree links), fresh .free);
+      }
+
+  pub fresh-stands : (cells : List ℕ) → cellBytes n ≤ length cells → Traffic n cells links []
+  unfolding stands
+  fresh-stands cells enough =
+      record {
+        links-stand = record {
+          held = nobody-waits;
+          stands = stands;
+          waits = nobody;
+          long = long;
+          sound = sound;
+          oldest = λ r hr. omega (arith, oldest r hr);
+        };
+        cells-long = enough;
+        frames = nobody;
+      }

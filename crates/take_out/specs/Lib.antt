@@ -1,0 +1,5 @@
+pub mod Serving
+pub mod Leaving
+pub mod Frames
+pub mod Take
+pub mod Drain
