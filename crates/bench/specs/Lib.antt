@@ -1,2 +1,4 @@
 pub mod Steady
 pub mod Carried
+pub mod Lined
+pub mod Stepped

@@ -2,14 +2,16 @@
 use crate::lines::flush;
 use crate::progress::Progress;
 use libc::STDIN_FILENO;
+ghost use mathlib.Core.Path.{_≡_};
 ghost use Prim.Native.Nat.{_+_, _≤_};
-ghost use lib.ListN.{length};
+ghost use lib.ListN.{length, take};
 ghost use Rattle.bench.specs.Steady.{Steady};
+ghost use Rattle.bench.specs.Stepped.{Refilled};
 
 // Reads into the buffer from place `from` on. Answers how many bytes came, 0 at the end of the input.
 fn read_more(input: &mut [u8], from: usize) -> usize
     requires { ⌜ from ≤ length (now input) ⌝ }
-    ensures { λ r. ⌜ from + r ≤ length (now (input .entry)) ⌝ }
+    ensures { λ r. ⌜ (from + r ≤ length (now (input .entry))) × (take from (now (input .exit)) ≡ take from (now (input .entry))) ⌝ }
 {
     let part = &mut input[from..];
     let got = libc::read(STDIN_FILENO, part);
@@ -20,6 +22,7 @@ fn read_more(input: &mut [u8], from: usize) -> usize
 // hands over a record sees its line.
 pub fn refill(input: &mut [u8], text: &[u8], p: Progress) -> Progress
     requires { ⌜ Steady p (length (now input)) (length (now text)) ⌝ }
+    ensures { λ r. ⌜ Refilled p r (now (input .entry)) (now (input .exit)) ⌝ }
     ensures { λ r. ⌜ Steady r (length (now (input .entry))) (length (now (text .entry))) ⌝ }
 {
     let on = flush(text, p.used);

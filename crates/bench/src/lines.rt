@@ -1,8 +1,10 @@
 // The lines, gathered before they are written.
 use lent::Answer;
 use libc::STDOUT_FILENO;
+ghost use mathlib.Core.Path.{_≡_};
 ghost use Prim.Native.Nat.{_+_, _≤_};
 ghost use lib.ListN.{length};
+ghost use Rattle.bench.specs.Lined.{lineAt, lined};
 
 // Writes the first bytes of the text, and answers whether that went well.
 pub fn flush(text: &[u8], used: usize) -> bool
@@ -14,7 +16,7 @@ pub fn flush(text: &[u8], used: usize) -> bool
 // Where the next line goes: behind the others, or to the front once they are written.
 fn place(text: &[u8], used: usize) -> usize
     requires { ⌜ (used ≤ length (now text)) × (64 ≤ length (now text)) ⌝ }
-    ensures { λ r. ⌜ r + 64 ≤ length (now (text .entry)) ⌝ }
+    ensures { λ r. ⌜ (r ≡ lineAt (length (now (text .entry))) used) × (r + 64 ≤ length (now (text .entry))) ⌝ }
 {
     if text.len() - used < 64 {
         flush(text, used);
@@ -26,6 +28,7 @@ fn place(text: &[u8], used: usize) -> usize
 // A line behind the others. Answers where it ends.
 pub fn put_line(text: &mut [u8], used: usize, number: u64, kind: u32, answer: Answer) -> usize
     requires { ⌜ (used ≤ length (now text)) × (64 ≤ length (now text)) ⌝ }
+    ensures { λ r. ⌜ (r, now (text .exit)) ≡ lined (now (text .entry)) used number kind answer ⌝ }
     ensures { λ r. ⌜ r ≤ length (now (text .entry)) ⌝ }
 {
     let at = place(text, used);

@@ -11,10 +11,11 @@ ghost use mathlib.Core.Bool.{false};
 ghost use Prim.Native.Nat.{_+_, _≤_};
 ghost use lib.ListN.{length};
 ghost use Rattle.bench.specs.Steady.{Steady};
+ghost use Rattle.bench.specs.Stepped.{stoppedAt, cutAt, carriedAt, nextAt, Stepped};
 
 // The run ends.
 fn stopped(p: Progress) -> Progress
-    ensures { λ r. ⌜ r ≡ record { at = p .at; end = p .end; used = p .used; number = p .number; ended = p .ended; on = false } ⌝ }
+    ensures { λ r. ⌜ r ≡ stoppedAt p ⌝ }
 {
     Progress {
         at: p.at,
@@ -29,6 +30,7 @@ fn stopped(p: Progress) -> Progress
 // "A length under 2 or a cut record ends the run after its line with kind 0 and refusal 11."
 fn cut(text: &mut [u8], p: Progress) -> Progress
     requires { ⌜ (p .used ≤ length (now text)) × (64 ≤ length (now text)) ⌝ }
+    ensures { λ r. ⌜ (r, now (text .exit)) ≡ cutAt (now (text .entry)) p ⌝ }
     ensures { λ r. ⌜ (r .used ≤ length (now (text .entry))) × (r .at ≡ p .at) × (r .end ≡ p .end) ⌝ }
 {
     let number = wrapping_add_u64(p.number, 1);
@@ -55,6 +57,7 @@ fn carry_out(
     long: usize,
 ) -> Progress
     requires { ⌜ Steady p (length (now input)) (length (now text)) × (64 ≤ length (now text)) × (2 ≤ long) × (p .at + 2 + long ≤ p .end) ⌝ }
+    ensures { λ r. ⌜ (r, ((now (cells .exit), now (links .exit), now (addresses .exit), now (out .exit)), now (text .exit))) ≡ carriedAt (now (cells .entry)) (now (links .entry)) (now (addresses .entry)) (now (out .entry)) (now (input .entry)) (now (text .entry)) p long ⌝ }
     ensures { λ r. ⌜ Steady r (length (now (input .entry))) (length (now (text .entry))) ⌝ }
 {
     let from = p.at + 2;
@@ -83,6 +86,7 @@ fn step(
     p: Progress,
 ) -> Progress
     requires { ⌜ Steady p (length (now input)) (length (now text)) × (64 ≤ length (now text)) ⌝ }
+    ensures { λ r. ⌜ Stepped (nextAt (now (input .entry)) p) (now (cells .entry)) (now (links .entry)) (now (addresses .entry)) (now (out .entry)) (now (input .entry)) (now (text .entry)) p r (now (cells .exit), now (links .exit), now (addresses .exit), now (out .exit)) (now (input .exit)) (now (text .exit)) ⌝ }
     ensures { λ r. ⌜ Steady r (length (now (input .entry))) (length (now (text .entry))) ⌝ }
 {
     let at = p.at;

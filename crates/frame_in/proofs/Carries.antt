@@ -1,50 +1,44 @@
 -- The writes one after another: what each makes of memory, and that a ring stays ready while others are written. Assumes nothing.
-use Prim.Native.Nat.{ℕ, _+_, _%_, _^_, _≤_, _<_}
+use Prim.Native.Nat.{ℕ, _+_, _≤_, _<_}
 use mathlib.Core.Path.{_≡_, ap, _∙_}
 use mathlib.Core.Bool.{Bool, true, false, not}
 use mathlib.Core.List.{List}
 use native.Mathlib.Omega.{arith}
 use borrow.Author.Tests.{eq-eqb, ne-eqb}
 use lib.Dec.{eqb}
-use lib.ListN.{getD, set}
 use Rattle.rules.specs.Cells.{cells}
 use Rattle.rules.proofs.Choice.{on}
-use Rattle.layout.specs.Places.{counterWord}
 use Rattle.layout.specs.Same.{RingSame}
 use Rattle.cells.specs.Free.{taken}
 use Rattle.cells.proofs.Apart.{taken-ring}
 use Rattle.queues.specs.Rings.{canPush, pushed}
 use Rattle.queues.proofs.Apart.{pushed-ring}
+use Rattle.settings.specs.Counters.{bumped}
 use Rattle.addresses.specs.Writes.{markedBy, learnedBy}
 use Rattle.frame_in.specs.declared.plan.Lesson.{Lesson}
 use Rattle.frame_in.specs.declared.plan.Tests.{Tests}
 use Rattle.frame_in.specs.declared.plan.Plan.{Plan}
 use Rattle.frame_in.specs.Room.{ringReady, ringsReady}
 use Rattle.frame_in.specs.Carried.{countTest, countedTests, countQueued, countedQueued, countIf, countedOutcome, countedBy, pushedIf, pushedTests, learnedLesson, lessonBy}
-use Rattle.frame_in.specs.Counting.{bumped}
 use Rattle.frame_in.proofs.RoomOutcomes.{all-ready}
 
 -- ---- counters
 
--- what a bump writes
-abbrev pub bumpedWord : ℕ → ℕ → List ℕ → List ℕ
-bumpedWord port number l = set l (counterWord port number) ((getD l (counterWord port number) 0 + 1) % 2 ^ 32)
-
 module _ (port test : ℕ) (l : List ℕ) where
-  pub count-state : test ≡ 17 → bumpedWord port 17 l ≡ countTest port test l
-  unfolding countTest bumped
+  pub count-state : test ≡ 17 → bumped port 17 l ≡ countTest port test l
+  unfolding countTest
   count-state e = rw (eq-eqb test 17 e)
 
-  pub count-queue-off : (test ≡ 17 → ⊥) → test ≡ 18 → bumpedWord port 18 l ≡ countTest port test l
-  unfolding countTest bumped
+  pub count-queue-off : (test ≡ 17 → ⊥) → test ≡ 18 → bumped port 18 l ≡ countTest port test l
+  unfolding countTest
   count-queue-off s e = rw (ne-eqb test 17 s, eq-eqb test 18 e)
 
   pub count-nothing : (test ≡ 17 → ⊥) → (test ≡ 18 → ⊥) → l ≡ countTest port test l
   unfolding countTest
   count-nothing s q = rw (ne-eqb test 17 s, ne-eqb test 18 q)
 
-  pub count-left : test ≡ 0 → bumpedWord port 16 l ≡ countQueued port test l
-  unfolding countQueued bumped
+  pub count-left : test ≡ 0 → bumped port 16 l ≡ countQueued port test l
+  unfolding countQueued
   count-left e = rw (eq-eqb test 0 e)
 
   pub count-not-left : (test ≡ 0 → ⊥) → l ≡ countQueued port test l
@@ -52,8 +46,8 @@ module _ (port test : ℕ) (l : List ℕ) where
   count-not-left e = rw (ne-eqb test 0 e)
 
 module _ (unlearned : Bool) (port : ℕ) (l : List ℕ) where
-  pub count-unlearned : unlearned ≡ true → bumpedWord port 15 l ≡ countIf unlearned port l
-  unfolding countIf bumped
+  pub count-unlearned : unlearned ≡ true → bumped port 15 l ≡ countIf unlearned port l
+  unfolding countIf
   count-unlearned e = rw e
 
   pub count-learned : unlearned ≡ false → l ≡ countIf unlearned port l
@@ -82,17 +76,17 @@ module _ (t : Tests) (a : List ℕ) {b c d e f : List ℕ} where
       (s ∙ ap (pushedIf n (12 + queue) x (t .three)) (r ∙ ap (pushedIf n (8 + queue) x (t .two)) (q ∙ ap (pushedIf n (4 + queue) x (t .one)) p)))
 
 module _ (port reason : ℕ) (t : Tests) (a : List ℕ) {b : List ℕ} where
-  pub outcome-queued : {c : List ℕ} → reason ≡ 0 → b ≡ bumpedWord port 14 a → c ≡ countedQueued t b → c ≡ countedOutcome port reason t a
-  unfolding countedOutcome bumped
+  pub outcome-queued : {c : List ℕ} → reason ≡ 0 → b ≡ bumped port 14 a → c ≡ countedQueued t b → c ≡ countedOutcome port reason t a
+  unfolding countedOutcome
   outcome-queued z e f = rw (eq-eqb reason 0 z) (f ∙ ap (countedQueued t) e)
 
-  pub outcome-dropped : (reason ≡ 0 → ⊥) → b ≡ bumpedWord port reason a → b ≡ countedOutcome port reason t a
-  unfolding countedOutcome bumped
+  pub outcome-dropped : (reason ≡ 0 → ⊥) → b ≡ bumped port reason a → b ≡ countedOutcome port reason t a
+  unfolding countedOutcome
   outcome-dropped z e = rw (ne-eqb reason 0 z) e
 
-pub counted-all : (port : ℕ) (unlearned : Bool) (plan : Plan) (a : List ℕ) {b c d e : List ℕ} → b ≡ bumpedWord port 0 a → c ≡ countIf unlearned port b
+pub counted-all : (port : ℕ) (unlearned : Bool) (plan : Plan) (a : List ℕ) {b c d e : List ℕ} → b ≡ bumped port 0 a → c ≡ countIf unlearned port b
     → d ≡ countedTests (plan .tests) c → e ≡ countedOutcome port (plan .reason) (plan .tests) d → e ≡ countedBy port unlearned plan a
-unfolding countedBy bumped
+unfolding countedBy
 counted-all port unlearned plan a p q r s =
     s ∙ ap (countedOutcome port (plan .reason) (plan .tests)) (r ∙ ap (countedTests (plan .tests)) (q ∙ ap (countIf unlearned port) p))
 

@@ -20,7 +20,8 @@ use Rattle.machine.specs.FrameIn.{mask, isNone, testEvent, testEvents, lessonEv
 use Rattle.frame_in.specs.Candidates.{testNumber, numbersOf, anyCandidateIn}
 use Rattle.frame_in.specs.Room.{leftMask}
 use Rattle.frame_in.specs.Carried.{countTest, countedTests, countQueued, countedQueued, countIf, pushedIf, pushedTests}
-use Rattle.frame_in.specs.Counting.{bumped, counted}
+use Rattle.settings.specs.Counters.{bumped}
+use Rattle.frame_in.specs.Counting.{counted}
 use Rattle.frame_in.specs.Call.{pushedAt}
 
 pub counted-append : (es fs : List Event) (l : List ℕ) → counted (es ++ fs) l ≡ counted fs (counted es l)

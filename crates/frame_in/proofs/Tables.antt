@@ -23,7 +23,7 @@ use Rattle.settings.specs.Records.{portAt, vlanAt}
 use Rattle.settings.specs.RangeLaws.{vlan-range}
 use Rattle.settings.specs.Table.{foundVlan}
 use Rattle.settings.specs.SettingsOf.{settingsOf}
-use Rattle.settings.specs.FindLaws.{found-there, found-nowhere}
+use Rattle.settings.specs.FindLaws.{found-there, found-nowhere, onFound}
 use Rattle.settings.specs.declared.table.Found.{Found}
 use Rattle.settings.specs.declared.table.Found.the-variants.{At, Nowhere, Damaged}
 use Rattle.addresses.specs.Numbers.{tableOf}
@@ -37,11 +37,6 @@ use Rattle.frame_in.proofs.Lessons.{address-below, table-is}
 
 some-not-none : {r : Reason} → some r ≡ none → ⊥
 some-not-none e = let z : _≡_ {A = ℕ} 0 1 = cc in omega arith
-
-onFound : {C : Type 0} (f : Found) → (f ≡ Damaged → C) → (f ≡ Nowhere → C) → ((e : ℕ) → f ≡ At e → C) → C
-onFound Damaged a b c = a refl
-onFound Nowhere a b c = b refl
-onFound (At e) a b c = c e refl
 
 module _ (links addresses frame : List ℕ) (port : ℕ) where
   -- ---- nothing is learned

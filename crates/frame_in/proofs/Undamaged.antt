@@ -28,7 +28,7 @@ use Rattle.settings.specs.Records.{portFrom, portAt, vlanFrom, vlanAt}
 use Rattle.settings.specs.RangeLaws.{port-range}
 use Rattle.settings.specs.Table.{vlanCount, vidAt, foundVlan}
 use Rattle.settings.specs.SettingsOf.{queuesOf, settingsOf}
-use Rattle.settings.specs.FindLaws.{found-there, found-undamaged}
+use Rattle.settings.specs.FindLaws.{found-there, found-undamaged, onFound}
 use Rattle.settings.specs.declared.table.Found.{Found}
 use Rattle.settings.specs.declared.table.Found.the-variants.{At, Nowhere, Damaged}
 use Rattle.addresses.specs.Search.{damaged}
@@ -53,11 +53,6 @@ onRoom : {C : Type 0} (r : Room) → (r ≡ Rooms.Damaged → C) → (r ≡ NoRo
 onRoom Rooms.Damaged a b c = a refl
 onRoom NoRoom a b c = b refl
 onRoom Enough a b c = c refl
-
-onFound : {C : Type 0} (f : Found) → (f ≡ Damaged → C) → (f ≡ Nowhere → C) → ((e : ℕ) → f ≡ At e → C) → C
-onFound Damaged a b c = a refl
-onFound Nowhere a b c = b refl
-onFound (At e) a b c = c e refl
 
 either : (b : Bool) (x y : ℕ) → eqb x 2 ≡ false → eqb y 2 ≡ false → eqb (if b then x else y) 2 ≡ false
 either true x y p q = p
@@ -95,14 +90,14 @@ module _ (links addresses : List ℕ) (good : InRange links addresses) where
 
   -- ---- room
 
-  ready : (k test r : ℕ) → r < 20 → roomFor (cellCount links) k links ≡ Enough → ringReady (cellCount links) links test r ≡ true
+  ready : (k test r : ℕ) → 1 ≤ k → r < 20 → roomFor (cellCount links) k links ≡ Enough → ringReady (cellCount links) links test r ≡ true
   unfolding ringReady
-  ready k test r h e = on (eqb test 0) (λ b. rw b (good .rings k r h e)) (λ b. rw b)
+  ready k test r least h e = on (eqb test 0) (λ b. rw b (good .rings k r least h e)) (λ b. rw b)
 
-  all-ready : (k queue : ℕ) (t : Tests) → queue < 4 → roomFor (cellCount links) k links ≡ Enough → ringsReady (cellCount links) links queue t ≡ true
+  all-ready : (k queue : ℕ) (t : Tests) → 1 ≤ k → queue < 4 → roomFor (cellCount links) k links ≡ Enough → ringsReady (cellCount links) links queue t ≡ true
   unfolding ringsReady
-  all-ready k queue t q e =
-      rw (ready k (t .zero) queue (omega arith) e, ready k (t .one) (4 + queue) (omega arith) e, ready k (t .two) (8 + queue) (omega arith) e, ready k (t .three) (12 + queue) (omega arith) e, ready k (t .four) (16 + queue) (omega arith) e)
+  all-ready k queue t least q e =
+      rw (ready k (t .zero) queue least (omega arith) e, ready k (t .one) (4 + queue) least (omega arith) e, ready k (t .two) (8 + queue) least (omega arith) e, ready k (t .three) (12 + queue) least (omega arith) e, ready k (t .four) (16 + queue) least (omega arith) e)
 
   room-whole : (long queue : ℕ) (t : Tests) → queue < 4 → metRoom (cellCount links) links long queue t ≡ false
   unfolding metRoom roomMet
@@ -112,7 +107,7 @@ module _ (links addresses : List ℕ) (good : InRange links addresses) where
       (λ b. onRoom (roomFor (cellCount links) (cells long) links)
       (λ e. absurd (good .cells _ e))
       (λ e. rw (b, e))
-      (λ e. rw (b, e, all-ready _ queue t q e)))
+      (λ e. rw (b, e, all-ready (cells long) queue t (omega arith) q e)))
 
   -- ---- the way of a frame
 
@@ -130,7 +125,7 @@ module _ (links addresses : List ℕ) (good : InRange links addresses) where
     unfolding settingsOf queuesOf
     queue-in pcp h = rw (lt-ltb pcp 8 (omega arith)) (good .map pcp (omega arith))
 
-    queue-small : queueFor (settingsOf links) port frame ≤ 3
+    pub queue-small : queueFor (settingsOf links) port frame ≤ 3
     unfolding queueFor
     queue-small = queue-in _ (pcp-of (settingsOf links .port port .default) (tagsOf frame) port-pcp (decoded-are-tags frame each))
 

@@ -22,7 +22,8 @@ use Rattle.frame_in.specs.Stored.{storedHeader}
 use Rattle.frame_in.specs.Candidates.{numbersOf}
 use Rattle.frame_in.specs.Room.{leftMask}
 use Rattle.frame_in.specs.Carried.{countedTests, countedQueued, countIf, countedOutcome, countedBy, joinedAt, joinedBy, storedAt, storedBy, lessonBy, carriedOut}
-use Rattle.frame_in.specs.Counting.{bumped, counted}
+use Rattle.settings.specs.Counters.{bumped}
+use Rattle.frame_in.specs.Counting.{counted}
 use Rattle.frame_in.specs.Call.{Memories, verdictOf, outcomeFor, storedFor, joinedFor, learnedIn, answerFor, enteredAs, entered}
 use Rattle.frame_in.proofs.Counts.{queued-counted, pushed-tests, left-is, events-counted}
 

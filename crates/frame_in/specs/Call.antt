@@ -12,7 +12,7 @@ use Rattle.rules.specs.Reasons.{reasonNumber}
 use Rattle.rules.specs.Settings.{Settings}
 use Rattle.rules.specs.Addresses.{key}
 use Rattle.rules.specs.Arrival.{Frame, Verdict, isBpdu, vlanFor, earlyRules, arrivalRules, decide}
-use Rattle.rules.specs.Refusals.{frameInLines}
+use Rattle.rules.specs.Refusals.{Lines, frameInLines}
 use Rattle.machine.specs.Waiting.{size}
 use Rattle.machine.specs.FrameIn.{mask, Outcome, drops, queues, outcomeOf, frameInEvents}
 use Rattle.layout.specs.Places.{ringOfQueue}
@@ -97,8 +97,12 @@ unfoldable pub entered : ℕ → List ℕ → List ℕ → List ℕ → List ℕ
 entered port frame memory links addresses =
     enteredAs (verdictOf links addresses port frame) (outcomeFor links (verdictOf links addresses port frame)) port frame memory links addresses
 
+-- the call's lines: 1, document 01's own, 10
+abbrev pub frameInRefusals : List ℕ → List ℕ → List ℕ → ℕ → List ℕ → Lines
+frameInRefusals memory links addresses port frame =
+    lengthLine (linksFit links && (cellsFit memory links && addressesFit addresses))
+    ∷ (frameInLines port ++ (damageLine (met links addresses port frame) ∷ []))
+
 unfoldable pub frameInCall : List ℕ → List ℕ → List ℕ → ℕ → List ℕ → Answer × Memories
 frameInCall memory links addresses port frame =
-    orRefused (first (lengthLine (linksFit links && (cellsFit memory links && addressesFit addresses)) ∷ (frameInLines port ++ (damageLine (met links addresses port frame) ∷ []))))
-    (memory, links, addresses)
-    (entered port frame memory links addresses)
+    orRefused (first (frameInRefusals memory links addresses port frame)) (memory, links, addresses) (entered port frame memory links addresses)

@@ -23,7 +23,7 @@ use Rattle.frame_in.specs.declared.plan.Lesson.{Lesson}
 use Rattle.frame_in.specs.declared.plan.Tests.{Tests}
 use Rattle.frame_in.specs.declared.plan.Plan.{Plan}
 use Rattle.frame_in.specs.Room.{ringsReady}
-use Rattle.frame_in.specs.Counting.{bumped}
+use Rattle.settings.specs.Counters.{bumped}
 
 -- ---- counters
 

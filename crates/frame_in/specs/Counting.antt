@@ -1,14 +1,9 @@
 -- The counters in link memory: one event at a time. Assumes nothing: these are definitions.
-use Prim.Native.Nat.{ℕ, _+_, _%_, _^_}
+use Prim.Native.Nat.{ℕ}
 use mathlib.Core.List.{List, [], _∷_}
-use lib.ListN.{getD, set}
 use Rattle.rules.specs.Counters.{counterNumber}
-use Rattle.layout.specs.Places.{counterWord}
 use Rattle.machine.specs.Events.{Event, portOf, counterOf}
-
--- "counters are 32 bits and go from the largest value to 0"
-unfoldable pub bumped : ℕ → ℕ → List ℕ → List ℕ
-bumped port number links = set links (counterWord port number) ((getD links (counterWord port number) 0 + 1) % 2 ^ 32)
+use Rattle.settings.specs.Counters.{bumped}
 
 -- each event at its port and in its counter
 unfoldable pub counted : List Event → List ℕ → List ℕ

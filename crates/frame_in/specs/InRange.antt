@@ -24,4 +24,4 @@ pub record InRange (links addresses : List ℕ) : Type 0 where
   pub places : allInRange addresses ≡ true
   -- the free cells are as many as they are said to be, and while there is one no ring is full
   pub cells : (k : ℕ) → roomFor (cellCount links) k links ≡ Damaged → ⊥
-  pub rings : (k r : ℕ) → r < 20 → roomFor (cellCount links) k links ≡ Enough → canPush (cellCount links) r links ≡ true
+  pub rings : (k r : ℕ) → 1 ≤ k → r < 20 → roomFor (cellCount links) k links ≡ Enough → canPush (cellCount links) r links ≡ true

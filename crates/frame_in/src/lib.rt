@@ -1,10 +1,10 @@
 // The call frame-in: a frame that arrives at a port.
-pub mod plan; // what is decided before the first write
-pub mod arrival; // rules 1 to 9
-pub mod candidates; // each port's test
-pub mod room; // rules 12 and 13
-pub mod judge; // the rules in document 01's order
-pub mod carry; // the writes
+mod plan; // what is decided before the first write
+mod arrival; // rules 1 to 9
+mod candidates; // each port's test
+mod room; // rules 12 and 13
+mod judge; // the rules in document 01's order
+mod carry; // the writes
 
 ghost use mathlib.Core.Path.{_≡_};
 ghost use mathlib.Core.Bool.{_&&_};

@@ -1,7 +1,7 @@
 // The fresh call: it writes every word of link memory, in order, and every place of address memory.
-pub mod words; // words 0 to 63
-pub mod records; // words 64 to 639
-pub mod cells; // the cells' records
+mod words; // words 0 to 63
+mod records; // words 64 to 639
+mod cells; // the cells' records
 
 use crate::cells::start_cells;
 use crate::records::start_ports;

@@ -3,16 +3,13 @@ use Prim.Native.Nat.{ℕ, _+_, _<_, _≤_}
 use mathlib.Core.Path.{_≡_}
 use mathlib.Core.List.{List, [], _∷_}
 use native.Mathlib.Omega.{arith}
-use lib.ListN.{length, getD, set}
+use lib.ListN.{length, set}
 use lib.Seq.{sets, getD-set-same, getD-set-other}
 use Rattle.slices.specs.Runs.{getD-sets-after}
 use Rattle.layout.specs.Places.{counterWord}
+pub use Rattle.settings.specs.Counters.{counterAt}
 use Rattle.settings.specs.SettingsOf.{settingsOf}
 use Rattle.settings.specs.SettingsAlike.{settings-kept-before}
-
--- counter `number` of a port
-abbrev pub counterAt : List ℕ → ℕ → ℕ → ℕ
-counterAt links port number = getD links (counterWord port number) 0
 
 module _ (l : List ℕ) (port number value : ℕ) where
   pub counter-set : 640 ≤ length l → port < 5 → number < 32 → counterAt (set l (counterWord port number) value) port number ≡ value

@@ -15,11 +15,18 @@ use Rattle.settings.specs.Records.{vlanFrom, vlanAt}
 use Rattle.settings.specs.Table.{vlanCount, vidAt, findFrom, foundVlan}
 use Rattle.settings.specs.SettingsOf.{vlansFrom, vlansOf}
 use Rattle.settings.specs.TableLaws.{vlans-in-use}
+use Rattle.settings.specs.declared.table.Found.{Found}
 use Rattle.settings.specs.declared.table.Found.the-variants.{At, Nowhere, Damaged}
 
-entry-vid : (l : List ℕ) (b : ℕ) → vlanEntry (vlanAt l b) .vid ≡ vidAt l b
+pub entry-vid : (l : List ℕ) (b : ℕ) → vlanEntry (vlanAt l b) .vid ≡ vidAt l b
 unfolding vlanEntry vlanFrom
 entry-vid l b = rw add-zero
+
+-- by cases on what a search says
+pub onFound : {C : Type 0} (f : Found) → (f ≡ Damaged → C) → (f ≡ Nowhere → C) → ((e : ℕ) → f ≡ At e → C) → C
+onFound Damaged damage miss hit = damage refl
+onFound Nowhere damage miss hit = miss refl
+onFound (At e) damage miss hit = hit e refl
 
 -- ---- one turn of the search, and of the list beside it
 

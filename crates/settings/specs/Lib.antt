@@ -3,6 +3,7 @@ pub mod RecordRuns
 pub mod RecordLaws
 pub mod RangeLaws
 pub mod Words
+pub mod Counters
 pub mod Table
 pub mod TableSteps
 pub mod SettingsOf

@@ -10,7 +10,7 @@ use Rattle.layout.specs.Places.{nextWord, sizeWord, portsWord, oldestWord, coun
 use Rattle.layout.specs.Same.{SettingsSame, CellsSame, RingSame}
 use Rattle.settings.specs.SettingsOf.{settingsOf}
 use Rattle.settings.specs.SettingsAlike.{settings-alike}
-use Rattle.settings.specs.CounterLaws.{counterAt}
+use Rattle.settings.specs.Counters.{counterAt}
 
 -- what a write of cells or rings leaves: the settings and the counters
 module _ {l m : List ℕ} (same : SettingsSame l m) where

@@ -80,17 +80,17 @@ vlans-at l e d h k =
 
 -- a run apart from an entry keeps it
 module _ (l : List ℕ) (at : ℕ) (ws : List ℕ) where
-  entry-before : (e : ℕ) → vlanWord e + 10 ≤ at → vlanAt (sets l at ws) e ≡ vlanAt l e
+  pub entry-before : (e : ℕ) → vlanWord e + 10 ≤ at → vlanAt (sets l at ws) e ≡ vlanAt l e
   entry-before e h = vlan-alike (alike-before l at ws 10 (vlanWord e) h)
 
   entry-after : (e : ℕ) → at + length ws ≤ vlanWord e → vlanAt (sets l at ws) e ≡ vlanAt l e
   entry-after e h = vlan-alike (alike-after l at ws 10 (vlanWord e) h)
 
 module _ (l : List ℕ) (e : ℕ) (n : VlanNumbers) (long : 640 ≤ length l) where
-  written : e < 16 → vlanAt (sets l (vlanWord e) (vlanWords n)) e ≡ n
+  pub written : e < 16 → vlanAt (sets l (vlanWord e) (vlanWords n)) e ≡ n
   written h = vlan-read-back l (vlanWord e) n (omega arith)
 
-  unwritten : (i : ℕ) → (i ≡ e → ⊥) → vlanAt (sets l (vlanWord e) (vlanWords n)) i ≡ vlanAt l i
+  pub unwritten : (i : ℕ) → (i ≡ e → ⊥) → vlanAt (sets l (vlanWord e) (vlanWords n)) i ≡ vlanAt l i
   unwritten i other =
       elim (decLt i e) as (λ _. vlanAt (sets l (vlanWord e) (vlanWords n)) i ≡ vlanAt l i) [
         | yes h ↦ entry-before l (vlanWord e) (vlanWords n) i (omega arith)
@@ -100,7 +100,7 @@ module _ (l : List ℕ) (e : ℕ) (n : VlanNumbers) (long : 640 ≤ length l) wh
       later : (i e : ℕ) → e ≤ i → (i ≡ e → ⊥) → e < i
       later i e h o = elim (decLt e i) as (λ _. e < i) [ yes p ↦ p | no p ↦ absurd (o (omega arith)) ]
 
-  count-kept : vlanCount (sets l (vlanWord e) (vlanWords n)) ≡ vlanCount l
+  pub count-kept : vlanCount (sets l (vlanWord e) (vlanWords n)) ≡ vlanCount l
   count-kept = getD-sets-before l (vlanWord e) (vlanWords n) 30 0 (omega arith)
 
 -- ---- the three writes of the table
@@ -137,10 +137,10 @@ vlans-replaced l e n long few there =
 
 -- the count set last
 module _ (l : List ℕ) (count : ℕ) (long : 640 ≤ length l) where
-  count-set : vlanCount (set l vlanCountWord count) ≡ count
+  pub count-set : vlanCount (set l vlanCountWord count) ≡ count
   count-set = getD-set-same l 30 count 0 (omega arith)
 
-  entry-kept : (e : ℕ) → vlanAt (set l vlanCountWord count) e ≡ vlanAt l e
+  pub entry-kept : (e : ℕ) → vlanAt (set l vlanCountWord count) e ≡ vlanAt l e
   entry-kept e = entry-after l 30 (count ∷ []) e (omega arith)
 
 -- "a new VID takes the next entry"
@@ -166,7 +166,7 @@ module _ (l : List ℕ) (e : ℕ) (long : 640 ≤ length l) (there : e < vlanCou
   unfolding laterWords
   later-length = simp (length-take, length-drop) (omega arith)
 
-  run-length : length (laterWords l e ++ replicate 16 0) ≡ 16 * (vlanCount l - 1 - e) + 16
+  pub run-length : length (laterWords l e ++ replicate 16 0) ≡ 16 * (vlanCount l - 1 - e) + 16
   run-length = omega (arith, length-append (laterWords l e) (replicate 16 0), later-length)
 
   later-inside : (j : ℕ) → j < 16 * (vlanCount l - 1 - e) → getD (laterWords l e) j 0 ≡ getD l (vlanWord (e + 1) + j) 0
@@ -186,7 +186,7 @@ module _ (l : List ℕ) (e : ℕ) (long : 640 ≤ length l) (there : e < vlanCou
       ∙ List·getD-append (laterWords l e) (replicate 16 0) 0 (16 * i + k) (omega (arith, later-length))
       ∙ later-inside (16 * i + k) inside)
 
-  moved-entry :
+  pub moved-entry :
       (i : ℕ) → i < vlanCount l - 1 - e
       → vlanAt (sets l (vlanWord e) (laterWords l e ++ replicate 16 0)) (e + i) ≡ vlanAt l (e + 1 + i)
   moved-entry i h = vlan-alike (record { word = λ k hk. moved-word i k h (omega arith) })

@@ -2,20 +2,20 @@
 use layout::COUNTER;
 use layout::COUNTER_STRIDE;
 ghost use mathlib.Core.Path.{_≡_};
-ghost use Prim.Native.Nat.{_+_, _%_, _^_, _<_, _≤_};
-ghost use lib.ListN.{length, getD, set};
-ghost use Rattle.layout.specs.Places.{counterWord};
+ghost use Prim.Native.Nat.{_<_, _≤_};
+ghost use lib.ListN.{length};
+ghost use Rattle.settings.specs.Counters.{counterAt, bumped};
 
 pub fn counter(links: &[u32], port: usize, number: usize) -> u32
     requires { ⌜ (port < 5) × (number < 32) × (640 ≤ length (now links)) ⌝ }
-    ensures { λ r. ⌜ r ≡ getD (now (links .entry)) (counterWord port number) 0 ⌝ }
+    ensures { λ r. ⌜ r ≡ counterAt (now (links .entry)) port number ⌝ }
 {
     links[COUNTER + COUNTER_STRIDE * port + number]
 }
 
 pub fn bump(links: &mut [u32], port: usize, number: usize)
     requires { ⌜ (port < 5) × (number < 32) × (640 ≤ length (now links)) ⌝ }
-    ensures { λ _. ⌜ now (links .exit) ≡ set (now (links .entry)) (counterWord port number) ((getD (now (links .entry)) (counterWord port number) 0 + 1) % 2 ^ 32) ⌝ }
+    ensures { λ _. ⌜ now (links .exit) ≡ bumped port number (now (links .entry)) ⌝ }
 {
     let at = COUNTER + COUNTER_STRIDE * port + number;
     links[at] = std::num::wrapping_add_u32(links[at], 1);

@@ -56,7 +56,7 @@ module _ (n : ℕ) (links : List ℕ) (ws : List Waiting) (T : LinkTraffic n lin
   ids-used : length (T .stands .ids) ≤ used ws
   ids-used = omega (arith, frames-used ws, ap length (sym (T .stands .holds)) ∙ length-map (T .stands .ids) (l .held))
 
-  ring-fits : (p q : ℕ) → p ≤ 4 → q < 4 → countOf links (ringOfQueue p q) ≤ used ws
+  pub ring-fits : (p q : ℕ) → p ≤ 4 → q < 4 → countOf links (ringOfQueue p q) ≤ used ws
   unfolding linksIn
   ring-fits p q hp hq =
       omega (
@@ -180,10 +180,10 @@ module _ (n : ℕ) (links : List ℕ) (ws : List Waiting) (T : LinkTraffic n lin
     waits-after =
         each-append
         (each-map (λ j h. rw (h .0) (kept j (h .0) (h .1))) (each-zip apart (T .waits)))
-        (also (rw (eqb-self i) (record { below = T .sound .first; somewhere = somewhere; ascending = ascending; said = ports-new; few = few })) nobody)
+        (also (rw (eqb-self i) (record { below = T .sound .first; somewhere = somewhere; ascending = ascending; said = ports-new; few = few; low = low })) nobody)
       where
         kept : (j : ℕ) → eqb i j ≡ false → WaitsAs n links j (T .held j) → WaitsAs n after j (T .held j)
-        kept j ne h = record { below = h .below; somewhere = h .somewhere; ascending = h .ascending; said = ports-other j ne ∙ h .said; few = h .few }
+        kept j ne h = record { below = h .below; somewhere = h .somewhere; ascending = h .ascending; said = ports-other j ne ∙ h .said; few = h .few; low = h .low }
 
     -- link memory after the arrival stands for the traffic with the frame at its end
     unfoldable pub traffic-after : LinkTraffic n after (join f ports ws)

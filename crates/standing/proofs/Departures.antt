@@ -61,7 +61,7 @@ module _ (links : List ℕ) (c v : ℕ) where
   ports-free = rw (ports-word freeCountWord (λ e. omega arith), ports-word firstFreeWord (λ e. omega arith)) (ports-follow (freeCount links) (firstFree links))
 
 -- the head of a part of a list passes its test, and has what each member has
-sift-head : {P : ℕ → Type 0} (t : ℕ → Bool) {xs : List ℕ} (x : ℕ) (tail : List ℕ) → Each P xs → sift t xs ≡ x ∷ tail → P x × (t x ≡ true)
+pub sift-head : {P : ℕ → Type 0} (t : ℕ → Bool) {xs : List ℕ} (x : ℕ) (tail : List ℕ) → Each P xs → sift t xs ≡ x ∷ tail → P x × (t x ≡ true)
 unfolding sift
 sift-head t x tail nobody e = absurd (let z : _≡_ {A = ℕ} 0 1 = cc in omega arith)
 sift-head {P} t x tail (also {a = y} {rest = ys} h hs) e =
@@ -250,11 +250,12 @@ module _ (n : ℕ) (links : List ℕ) (ws : List Waiting) (T : LinkTraffic n lin
             ascending = ascending-without p (w .ports) (waits-i .ascending);
             said = cells-same .ports i ∙ D-ports-i m ms e;
             few = waits-i .few;
+            low = waits-i .low;
           }
 
       goes-on : (j : ℕ) → eqb i j ≡ false → WaitsAs n links j (T .held j) → WaitsAs n after j (T .held j)
       goes-on j ne h =
-          record { below = h .below; somewhere = h .somewhere; ascending = h .ascending; said = cells-same .ports j ∙ D-ports j ne ∙ h .said; few = h .few }
+          record { below = h .below; somewhere = h .somewhere; ascending = h .ascending; said = cells-same .ports j ∙ D-ports j ne ∙ h .said; few = h .few; low = h .low }
 
   pub oldest-after : (r : ℕ) → r < 20 → oldestPlace after r < n
   unfolding popped

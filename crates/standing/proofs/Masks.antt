@@ -40,7 +40,7 @@ last-is p ps d h =
 
 -- ---- ascending ports
 
-sift-sift : (t u : ℕ → Bool) (xs : List ℕ) → sift t (sift u xs) ≡ sift (λ x. u x && t x) xs
+pub sift-sift : (t u : ℕ → Bool) (xs : List ℕ) → sift t (sift u xs) ≡ sift (λ x. u x && t x) xs
 unfolding sift
 sift-sift t u [] = refl
 sift-sift t u (x ∷ xs) =
@@ -48,12 +48,12 @@ sift-sift t u (x ∷ xs) =
     (λ e. rw e (on (t x) (λ f. rw f (ap (x ∷_) (sift-sift t u xs))) (λ f. rw f (sift-sift t u xs))))
     (λ e. rw e (sift-sift t u xs))
 
-sift-ext : (t u : ℕ → Bool) → ((x : ℕ) → t x ≡ u x) → (xs : List ℕ) → sift t xs ≡ sift u xs
+pub sift-ext : (t u : ℕ → Bool) → ((x : ℕ) → t x ≡ u x) → (xs : List ℕ) → sift t xs ≡ sift u xs
 unfolding sift
 sift-ext t u h [] = refl
 sift-ext t u h (x ∷ xs) = rw (h x, sift-ext t u h xs)
 
-among-sift-is : (t : ℕ → Bool) (x : ℕ) (xs : List ℕ) → among x (sift t xs) ≡ among x xs && t x
+pub among-sift-is : (t : ℕ → Bool) (x : ℕ) (xs : List ℕ) → among x (sift t xs) ≡ among x xs && t x
 unfolding among sift
 among-sift-is t x [] = refl
 among-sift-is t x (y ∷ ys) =

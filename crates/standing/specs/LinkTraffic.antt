@@ -26,6 +26,8 @@ pub record WaitsAs (n : ℕ) (links : List ℕ) (c : ℕ) (w : Waiting) : Type 0
   pub ascending : w .ports ≡ sift (λ p. among p (w .ports)) allPorts
   pub said : portsOf links c ≡ mask (w .ports)
   pub few : size (w .frame) ≤ cells longest
+  -- a frame of a queue above 3 would stand in no ring
+  pub low : w .frame .queue < 4
 
 pub record LinkTraffic (n : ℕ) (links : List ℕ) (ws : List Waiting) : Type 0 where
   pub held : ℕ → Waiting

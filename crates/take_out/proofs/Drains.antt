@@ -23,7 +23,8 @@ use Rattle.queues.specs.declared.Waiting.the-variants.{First, Nothing, Damaged}
 use Rattle.queues.proofs.Waiting.{the-type}
 use Rattle.queues.proofs.Wraps.{wrapped, wrap-below}
 use Rattle.queues.proofs.Answers.{oldest-nothing}
-use Rattle.take_out.specs.Leaving.{canLeave, departed, bumped, left}
+use Rattle.settings.specs.Counters.{bumped}
+use Rattle.take_out.specs.Leaving.{canLeave, departed, left}
 use Rattle.take_out.specs.Drain.{allCanLeave, inRange, canDrain, canDrainAll, dropped, drainOldest, drainOne, drainMany, drainQueue, drainAll, copies, drainRefusals, drainCall}
 use Rattle.take_out.proofs.Copies.{departed-ring}
 

@@ -1,15 +1,16 @@
 -- A copy leaves a port: what is tested before, and what is written to link memory, in this order. Assumes nothing: these are definitions.
-use Prim.Native.Nat.{ℕ, _+_, _-_, _%_, _^_}
+use Prim.Native.Nat.{ℕ, _-_, _^_}
 use mathlib.Core.Bool.{Bool, true, _&&_}
 use mathlib.Core.List.{List}
 use lib.Dec.{eqb, ltb}
-use lib.ListN.{getD, set}
+use lib.ListN.{set}
 use Rattle.rules.specs.Choice.{if_then_else_}
 use Rattle.rules.specs.Arguments.{bit}
 use Rattle.rules.specs.Counters.{Counter, counterNumber}
-use Rattle.layout.specs.Places.{counterWord, portsWord, ringOfQueue}
+use Rattle.layout.specs.Places.{portsWord, ringOfQueue}
 use Rattle.cells.specs.Free.{portsOf, isFrame, canGiveBack, givenBack}
 use Rattle.queues.specs.Rings.{popped}
+use Rattle.settings.specs.Counters.{bumped}
 
 -- the frame whose first cell is c waits at this port alone
 unfoldable pub isLast : ℕ → ℕ → List ℕ → Bool
@@ -25,10 +26,6 @@ canLeave n port c links =
 unfoldable pub departed : ℕ → ℕ → List ℕ → List ℕ
 departed port c links =
     if isLast port c links then givenBack c links else set links (portsWord c) (portsOf links c - 2 ^ port)
-
--- "counters are 32 bits and go from the largest value to 0"
-abbrev pub bumped : ℕ → ℕ → List ℕ → List ℕ
-bumped port number links = set links (counterWord port number) ((getD links (counterWord port number) 0 + 1) % 2 ^ 32)
 
 -- its entry leaves the queue, and its port counts it
 unfoldable pub left : ℕ → ℕ → ℕ → Counter → List ℕ → List ℕ

@@ -8,6 +8,7 @@ ghost use Rattle.rules.specs.Cells.{mostCells};
 ghost use Rattle.layout.specs.Places.{linkWords};
 ghost use Rattle.cells.specs.Free.{portsOf};
 ghost use Rattle.queues.specs.Rings.{oldestPlace, countOf, popped};
+ghost use Rattle.settings.specs.Counters.{bumped};
 ghost use Rattle.take_out.specs.Leaving as spec;
 
 // The counters of copies that leave.
@@ -78,7 +79,7 @@ pub fn depart(links: &mut [u32], n: usize, port: u32, c: u32)
 pub fn leave(links: &mut [u32], n: usize, port: usize, ring: usize, number: usize)
     requires { ⌜ (linkWords n ≤ length (now links)) × (n ≤ mostCells) × (port < 5) × (ring < 20) × (number < 32) ⌝ }
     requires { ⌜ (oldestPlace (now links) ring < n) × (1 ≤ countOf (now links) ring) ⌝ }
-    ensures { λ _. ⌜ now (links .exit) ≡ spec.bumped port number (popped n ring (now (links .entry))) ⌝ }
+    ensures { λ _. ⌜ now (links .exit) ≡ bumped port number (popped n ring (now (links .entry))) ⌝ }
 {
     queues::pop(links, n, ring);
     settings::counter::bump(links, port, number);

@@ -9,11 +9,11 @@ use crate::serving::served;
 use layout::CELL_COUNT;
 use lent::Answer;
 
-pub mod serving; // which queue is served
-pub mod leaving; // a copy leaves the memory
-pub mod frame; // the bytes that leave
-pub mod taking; // a frame is taken
-pub mod draining; // a port is drained
+mod serving; // which queue is served
+mod leaving; // a copy leaves the memory
+mod frame; // the bytes that leave
+mod taking; // a frame is taken
+mod draining; // a port is drained
 
 // "A take at a port writes the oldest frame of its highest-numbered waiting queue; the rest of the buffer keeps its bytes."
 // Answers the length written, and the queue.

@@ -1,10 +1,13 @@
--- `bench::run::step` is safe: a whole record lies in what was read. Assumes nothing.
+-- `bench::run::step` meets its contract: a whole record lies in what was read. Assumes nothing.
 use Prim.Native.Nat.{_+_, _≤_}
-use mathlib.Core.Path.{sym, _∙_}
+use mathlib.Core.Path.{_≡_, refl, sym, ap, _∙_}
 use native.Mathlib.Omega.{arith}
 use borrow.Author.Needs.{needs}
 use Rattle.records.proofs.Cutting.{framing}
+use Rattle.records.specs.declared.framing.Next.the-variants.{More, Finished, Cut, Whole}
+use Rattle.bench.specs.declared.progress.Progress.{Progress}
 use Rattle.bench.specs.Steady.{Steady, left-length}
+use Rattle.bench.specs.Stepped.{nextAt}
 use Rattle.bench.proofs.run.step.Statement.{statement}
 use Rattle.bench.proofs.run.step.Tie as tie
 
@@ -51,13 +54,13 @@ same-length-2 : tie.Need-same-length-2
 same-length-2 c = search needs
 
 returns : tie.Need-returns
-returns c = search needs
+returns c = let a = c .before .before .before .before .before .before .before .before .before .before .before .before .before .before .before .before .args in let e : nextAt (a .input .now) (a .p) ≡ More = sym (c .before .before .before .before .before .before .before .next-in .ensures) ∙ c .before .before .before .before .before .enum-told .given .1 in (rw e (c .before .before .refill .ensures .0, refl, refl), c .before .before .refill .ensures .1)
 
 same-length-3 : tie.Need-same-length-3
 same-length-3 c = search needs
 
 returns-2 : tie.Need-returns-2
-returns-2 c = rw (c .stopped .ensures) (omega (arith, c .before .before .before .before .before .before .before .before .before .before .before .before .pre))
+returns-2 c = let a = c .before .before .before .before .before .before .before .before .before .before .before .before .args in let e : nextAt (a .input .now) (a .p) ≡ Finished = sym (c .before .before .before .next-in .ensures) ∙ c .before .enum-told2 .given .1 in (rw e (ap (λ (r : Progress). (r, ((a .cells .now, a .links .now, a .addresses .now, a .out .now), a .text .now))) (c .stopped .ensures), refl), rw (c .stopped .ensures) (omega (arith, c .before .before .before .before .before .before .before .before .before .before .before .before .pre)))
 
 same-length-4 : tie.Need-same-length-4
 same-length-4 c = search needs
@@ -66,7 +69,7 @@ same-length-5 : tie.Need-same-length-5
 same-length-5 c = search needs
 
 returns-3 : tie.Need-returns-3
-returns-3 c = search needs
+returns-3 c = let a = c .before .before .before .before .before .before .before .before .before .before .before .before .before .before .before .args in let e : nextAt (a .input .now) (a .p) ≡ Cut = sym (c .before .before .before .before .before .before .next-in .ensures) ∙ c .before .before .before .before .enum-told3 .given .1 in (rw e (c .before .before .cut .ensures .0, refl, refl), omega (arith, c .before .before .cut .ensures .1, c .before .before .before .before .before .before .before .before .before .before .before .before .before .before .before .pre))
 
 same-length-6 : tie.Need-same-length-6
 same-length-6 c = search needs
@@ -87,7 +90,7 @@ same-length-11 : tie.Need-same-length-11
 same-length-11 c = search needs
 
 returns-4 : tie.Need-returns-4
-returns-4 c = search needs
+returns-4 c = let a = c .before .before .before .before .before .before .before .before .before .before .before .before .before .before .before .before .before .before .before .before .before .before .before .before .before .before .before .before .before .args in let e : nextAt (a .input .now) (a .p) ≡ Whole _ = sym (c .before .before .before .before .before .before .before .before .before .before .before .before .before .before .before .before .before .before .before .before .next-in .ensures) ∙ c .before .before .before .before .before .before .before .before .before .before .before .before .before .before .before .before .before .before .next .given .1 in (rw e (c .before .before .before .before .before .before .before .before .before .before .carry-out .ensures .0, refl), c .before .before .before .before .before .before .before .before .before .before .carry-out .ensures .1)
 
 pub step-spec : {M : Type 1} → statement M
 step-spec =

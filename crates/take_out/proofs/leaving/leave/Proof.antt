@@ -1,7 +1,7 @@
 -- `take_out::leaving::leave` meets its contract. Assumes nothing.
 use mathlib.Core.Path.{ap, _∙_}
 use borrow.Author.Needs.{needs}
-use Rattle.take_out.specs.Leaving.{bumped}
+use Rattle.settings.specs.Counters.{bumped}
 use Rattle.take_out.proofs.leaving.leave.Statement.{statement}
 use Rattle.take_out.proofs.leaving.leave.Tie as tie
 

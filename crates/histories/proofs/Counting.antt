@@ -1,0 +1,129 @@
+-- Counters in memory go up by the machine's events. Assumes nothing.
+use Prim.Native.Nat.{ℕ, _+_, _%_, _^_, _≤_, _<_}
+use mathlib.Core.Path.{_≡_, refl, ap, _∙_}
+use mathlib.Core.List.{List, [], _∷_}
+use native.Mathlib.Omega.{arith}
+use lib.Dec.{eqb}
+use lib.ListN.{length, length-set}
+use lib.Seq.{getD-set-other}
+use borrow.Author.Tests.{eqb-true, eqb-false}
+use Rattle.rules.specs.Choice.{Each, also}
+use Rattle.rules.specs.Reasons.{Reason, reasonNumber, short, long, groupSource, tagCount, portBlocking, portListening, vid4095, noVlan, noMember, portLearning, noCandidate, noPortLeft, noRoom}
+use Rattle.rules.specs.Counters.{Counter, counterNumber, lastCounter, offered, accepted, notLearned, queued, state, queueOff, sent, drained, reason}
+use Rattle.rules.proofs.Choice.{on}
+use Rattle.machine.specs.Events.{Event, portOf, counterOf, Counts, bumps, bump, tally}
+use Rattle.layout.specs.Places.{counterWord}
+use Rattle.layout.specs.Same.{CellsSame, RingSame}
+use Rattle.layout.proofs.Stores.{cells-then, ring-then}
+use Rattle.settings.specs.CounterLaws.{counter-set, counter-of-port-kept, counter-elsewhere-kept}
+use Rattle.settings.specs.SameLaws.{ring-kept, cells-kept-before}
+use Rattle.standing.proofs.Pushes.{cells-self}
+use Rattle.settings.specs.Counters.{bumped}
+use Rattle.frame_in.specs.Counting.{counted}
+use Rattle.histories.specs.Stands.{CountersStand}
+use Rattle.histories.proofs.Kept.{SettingWords}
+
+reason-number : (r : Reason) → reasonNumber r ≤ 13
+unfolding reasonNumber
+reason-number short = omega arith
+reason-number long = omega arith
+reason-number groupSource = omega arith
+reason-number tagCount = omega arith
+reason-number portBlocking = omega arith
+reason-number portListening = omega arith
+reason-number vid4095 = omega arith
+reason-number noVlan = omega arith
+reason-number noMember = omega arith
+reason-number portLearning = omega arith
+reason-number noCandidate = omega arith
+reason-number noPortLeft = omega arith
+reason-number noRoom = omega arith
+
+counter-number : (c : Counter) → counterNumber c ≤ lastCounter
+unfolding counterNumber
+counter-number offered = omega arith
+counter-number accepted = omega arith
+counter-number notLearned = omega arith
+counter-number queued = omega arith
+counter-number state = omega arith
+counter-number queueOff = omega arith
+counter-number sent = omega arith
+counter-number drained = omega arith
+counter-number (reason r) = omega (arith, reason-number r)
+
+-- an event at one of the five ports
+abbrev pub AtPort : Event → Type 0
+AtPort e = portOf e < 5
+
+pub length-bumped : (p k : ℕ) (l : List ℕ) → length (bumped p k l) ≡ length l
+length-bumped p k l = length-set l (counterWord p k) _
+
+pub bump-stands : (l : List ℕ) (c : Counts) → 640 ≤ length l → (e : Event) → AtPort e → CountersStand l c
+    → CountersStand (bumped (portOf e) (counterNumber (counterOf e)) l) (bump e c)
+unfolding bump bumps
+bump-stands l c enough e at h p k hp hk =
+    let number = counterNumber (counterOf e) in
+    let small = counter-number (counterOf e) in
+    on (eqb p (portOf e))
+    (λ same. on (eqb k number)
+    (λ alike.
+    let s : p ≡ portOf e = eqb-true p (portOf e) same in
+    let t : k ≡ number = eqb-true k number alike in
+    rw (same, alike)
+    (rw (s, t)
+    (counter-set l (portOf e) number _ enough at (omega arith)
+    ∙ ap (λ (x : ℕ). (x + 1) % 2 ^ 32) (h (portOf e) number at small))))
+    (λ other.
+    let s : p ≡ portOf e = eqb-true p (portOf e) same in
+    rw (same, other)
+    (rw s (counter-of-port-kept l (portOf e) number _ k (eqb-false k number other) ∙ h (portOf e) k at hk))))
+    (λ other. rw other
+    (counter-elsewhere-kept l (portOf e) number _ p k (eqb-false p (portOf e) other) (omega arith) (omega arith) ∙ h p k hp hk))
+
+pub length-counted : (es : List Event) (l : List ℕ) → length (counted es l) ≡ length l
+unfolding counted
+length-counted [] l = refl
+length-counted (e ∷ es) l =
+    length-counted es (bumped (portOf e) (counterNumber (counterOf e)) l) ∙ length-bumped (portOf e) (counterNumber (counterOf e)) l
+
+pub counted-stands : (es : List Event) → Each AtPort es → (l : List ℕ) (c : Counts) → 640 ≤ length l → CountersStand l c
+    → CountersStand (counted es l) (tally es c)
+unfolding counted tally
+counted-stands [] at l c enough h = h
+counted-stands (e ∷ es) (also at more) l c enough h =
+    counted-stands es more (bumped (portOf e) (counterNumber (counterOf e)) l) (bump e c)
+    (omega (arith, length-bumped (portOf e) (counterNumber (counterOf e)) l, enough))
+    (bump-stands l c enough e at h)
+
+-- ---- all else is kept
+
+bumped-words : (p k : ℕ) (l : List ℕ) → SettingWords l (bumped p k l)
+bumped-words p k l = record { word = λ w h f g. getD-set-other l (counterWord p k) w _ 0 (λ e. omega arith) }
+
+bumped-cells : (p k : ℕ) (l : List ℕ) → p < 5 → k ≤ lastCounter → CellsSame l (bumped p k l)
+bumped-cells p k l hp hk = cells-kept-before l (counterWord p k) (_ ∷ []) (omega arith) (omega arith)
+
+bumped-ring : (p k : ℕ) (l : List ℕ) → p < 5 → k ≤ lastCounter → (r : ℕ) → RingSame r l (bumped p k l)
+bumped-ring p k l hp hk r = ring-kept l (counterWord p k) (_ ∷ []) (omega arith) r
+
+-- what counting leaves alone
+pub record Uncounted (l m : List ℕ) : Type 0 where
+  pub words : SettingWords l m
+  pub cells : CellsSame l m
+  pub rings : (r : ℕ) → RingSame r l m
+
+pub bumped-keeps : (p k : ℕ) (l : List ℕ) → p < 5 → k ≤ lastCounter → Uncounted l (bumped p k l)
+bumped-keeps p k l hp hk = record { words = bumped-words p k l; cells = bumped-cells p k l hp hk; rings = bumped-ring p k l hp hk }
+
+pub counted-keeps : (es : List Event) → Each AtPort es → (l : List ℕ) → Uncounted l (counted es l)
+unfolding counted
+counted-keeps [] at l =
+    record { words = record { word = λ w h f g. refl }; cells = cells-self l; rings = λ r. record { oldest = refl; count = refl; place = λ i. refl } }
+counted-keeps (e ∷ es) (also at more) l =
+    let one = bumped-keeps (portOf e) (counterNumber (counterOf e)) l at (counter-number (counterOf e)) in
+    let rest = counted-keeps es more (bumped (portOf e) (counterNumber (counterOf e)) l) in
+    record {
+      words = record { word = λ w h f g. rest .words .word w h f g ∙ one .words .word w h f g };
+      cells = cells-then (one .cells) (rest .cells);
+      rings = λ r. ring-then (one .rings r) (rest .rings r);
+    }

@@ -1,0 +1,101 @@
+-- A call that writes words of settings and nothing else leaves memories that stand for the state with those settings. Assumes nothing.
+use Prim.Native.Nat.{ℕ, _+_, _≤_}
+use mathlib.Core.Path.{_≡_, refl, _∙_}
+use mathlib.Core.List.{List}
+use mathlib.Core.Option.{Option, none}
+use native.Mathlib.Omega.{arith}
+use lib.ListN.{length}
+use lib.Seq.{sets, length-sets}
+use Rattle.slices.specs.Runs.{getD-sets-before}
+use Rattle.rules.specs.Lines.{first}
+use Rattle.rules.specs.Settings.{Settings}
+use Rattle.rules.specs.Refusals.{Refusal}
+use Rattle.machine.specs.Events.{tally}
+use Rattle.machine.specs.State.{State, Call}
+use Rattle.machine.specs.SettingCalls.{leaves, settle}
+use Rattle.machine.specs.Machine.{linesOf, act, perform, next}
+use Rattle.layout.specs.Same.{CellsSame, RingSame}
+use Rattle.layout.proofs.Stores.{cells-then, ring-then}
+use Rattle.lent.specs.Lengths.{cellCount}
+use Rattle.lent.specs.Answers.{doneWith, orRefused}
+use Rattle.lent.specs.Fits.{links-fit}
+use Rattle.settings.specs.CounterLaws.{counterAt, setting-keeps-counters}
+use Rattle.settings.specs.SameLaws.{ring-kept, cells-kept-after, cells-kept-before}
+use Rattle.histories.specs.Memories.{Memories}
+use Rattle.histories.specs.Stands.{SettingsStand, Stands}
+use Rattle.histories.specs.Runs.{onLinks}
+use Rattle.histories.specs.Follows.{numbersOf, handedBack, Follows}
+use Rattle.histories.proofs.Answers.{follows-by}
+use Rattle.histories.proofs.Kept.{fit-same, cells-fit-same, traffic-same}
+
+-- the words of the settings and of the counters are there
+pub links-long : (m : Memories) (s : State) → Stands m s → 640 ≤ length (m .links)
+links-long m s S = omega (arith, links-fit (m .links) (S .links-fit) .long)
+
+-- what a write of settings leaves alone
+pub record OnlySet (l m : List ℕ) : Type 0 where
+  pub long : length m ≡ length l
+  pub cell-count : cellCount m ≡ cellCount l
+  pub counters : (p k : ℕ) → counterAt m p k ≡ counterAt l p k
+  pub cells : CellsSame l m
+  pub rings : (r : ℕ) → RingSame r l m
+
+-- settings stand before the free cells' two words and behind them
+module _ (l : List ℕ) (at : ℕ) (ws : List ℕ) where
+  pub set-before : 1 ≤ at → at + length ws ≤ 31 → OnlySet l (sets l at ws)
+  set-before first last =
+      record {
+        long = length-sets l at ws;
+        cell-count = getD-sets-before l at ws 0 0 first;
+        counters = setting-keeps-counters l at ws (omega arith);
+        cells = cells-kept-after l at ws (omega arith) last;
+        rings = ring-kept l at ws (omega arith);
+      }
+
+  pub set-behind : 33 ≤ at → at + length ws ≤ 400 → OnlySet l (sets l at ws)
+  set-behind first last =
+      record {
+        long = length-sets l at ws;
+        cell-count = getD-sets-before l at ws 0 0 (omega arith);
+        counters = setting-keeps-counters l at ws last;
+        cells = cells-kept-before l at ws (omega arith) first;
+        rings = ring-kept l at ws (omega arith);
+      }
+
+pub set-then : {l m n : List ℕ} → OnlySet l m → OnlySet m n → OnlySet l n
+set-then a b =
+    record {
+      long = b .long ∙ a .long;
+      cell-count = b .cell-count ∙ a .cell-count;
+      counters = λ p k. b .counters p k ∙ a .counters p k;
+      cells = cells-then (a .cells) (b .cells);
+      rings = λ r. ring-then (a .rings r) (b .rings r);
+    }
+
+settled : (m : Memories) (s : State) → Stands m s → (buffer links : List ℕ) (new : Settings)
+    → OnlySet (m .links) links → SettingsStand links new
+    → Follows (onLinks m buffer (doneWith 0 0, links)) buffer s (settle s new)
+unfolding settle leaves numbersOf handedBack next tally
+settled m s S buffer links new only stands =
+    record {
+      same-answer = refl;
+      same-bytes = refl;
+      stands-kept = record {
+        links-fit = fit-same (m .links) links (only .long) (only .cell-count) (S .links-fit);
+        cells-fit = cells-fit-same (m .links) links (only .long) (m .cells) (only .cell-count) (S .cells-fit);
+        cell-count = only .cell-count ∙ S .cell-count;
+        settings = stands;
+        addresses = S .addresses;
+        counters = λ p k hp hk. only .counters p k ∙ S .counters p k hp hk;
+        traffic = traffic-same (m .links) links (only .long) (s .cellCount) (m .cells) (s .core .waiting) (only .cells) (λ r h. only .rings r) (S .traffic);
+      };
+    }
+
+-- such a call by its refusal lines
+pub setting-follows : (m : Memories) (s : State) → Stands m s → (c : Call) (buffer : List ℕ) (o : Option Refusal) → o ≡ first (linesOf s c)
+    → (links : List ℕ) (new : Settings) → act s c ≡ settle s new
+    → (first (linesOf s c) ≡ none → OnlySet (m .links) links × SettingsStand links new)
+    → Follows (onLinks m buffer (orRefused o (m .links) (doneWith 0 0, links))) buffer s (perform s c)
+setting-follows m s S c buffer o same links new acts doing =
+    follows-by m s S c buffer (m .links) (doneWith 0 0, links) (onLinks m buffer) (λ r. refl) o same
+    (λ e. rw acts (settled m s S buffer links new (doing e .0) (doing e .1)))

@@ -1,0 +1,48 @@
+-- The machine's calls as the promises of the public calls over lent memories: each line cites the very function that stands in the
+-- `ensures` of the Rattle function, as `src/lib.rt` shows. Assumes nothing: these are definitions.
+use Prim.Native.Nat.{ℕ}
+use mathlib.Core.List.{List}
+use Rattle.machine.specs.State.{Call, frameIn, take, age, counter, port, vlan, clearVlan, static, remove, map, queueSwitch, drain, bpdu}
+use Rattle.lent.specs.declared.Answer.{Answer}
+use Rattle.frame_in.specs.Call.{frameInCall}
+use Rattle.take_out.specs.Take.{takeCall}
+use Rattle.take_out.specs.Drain.{drainCall}
+use Rattle.address_calls.specs.Calls.{ageCall, staticCall, removeCall}
+use Rattle.setting_calls.specs.Calls.{counterCall, portCall, mapCall, queueSwitchCall, bpduCall}
+use Rattle.setting_calls.specs.Vlans.{vlanCall, clearVlanCall}
+use Rattle.histories.specs.Memories.{Memories, Done}
+
+-- ---- by the memories that a call is lent to write
+
+abbrev pub onAll : List ℕ → Answer × (List ℕ × List ℕ × List ℕ) → Done
+onAll buffer r =
+    record { answer = r .0; buffer = buffer; memories = record { cells = r .1 .0; links = r .1 .1; addresses = r .1 .2 } }
+
+abbrev pub onBuffer : Memories → Answer × (List ℕ × List ℕ) → Done
+onBuffer m r =
+    record { answer = r .0; buffer = r .1 .1; memories = record { cells = m .cells; links = r .1 .0; addresses = m .addresses } }
+
+abbrev pub onLinks : Memories → List ℕ → Answer × List ℕ → Done
+onLinks m buffer r =
+    record { answer = r .0; buffer = buffer; memories = record { cells = m .cells; links = r .1; addresses = m .addresses } }
+
+abbrev pub onAddresses : Memories → List ℕ → Answer × List ℕ → Done
+onAddresses m buffer r =
+    record { answer = r .0; buffer = buffer; memories = record { cells = m .cells; links = m .links; addresses = r .1 } }
+
+-- ---- a call: only take writes to the buffer, and its room is the buffer's length
+
+unfoldable pub run : Memories → Call → List ℕ → Done
+run m (frameIn p k) buffer = onAll buffer (frameInCall (m .cells) (m .links) (m .addresses) p (k .bytes))
+run m (take p room) buffer = onBuffer m (takeCall (m .cells) (m .links) p buffer)
+run m age buffer = onAddresses m buffer (ageCall (m .addresses))
+run m (counter p k) buffer = onLinks m buffer (counterCall (m .links) p k)
+run m (port p n) buffer = onLinks m buffer (portCall (m .links) p n)
+run m (vlan n) buffer = onLinks m buffer (vlanCall (m .links) n)
+run m (clearVlan vid) buffer = onLinks m buffer (clearVlanCall (m .links) vid)
+run m (static gid p address) buffer = onAddresses m buffer (staticCall (m .addresses) gid p address)
+run m (remove gid address) buffer = onAddresses m buffer (removeCall (m .addresses) gid address)
+run m (map pcp q) buffer = onLinks m buffer (mapCall (m .links) pcp q)
+run m (queueSwitch p q on) buffer = onLinks m buffer (queueSwitchCall (m .links) p q on)
+run m (drain p) buffer = onLinks m buffer (drainCall (m .links) p)
+run m (bpdu on) buffer = onLinks m buffer (bpduCall (m .links) on)

@@ -1,0 +1,41 @@
+-- What makes the promises mean document 01: memory stands for the machine, over every history. `proofs/Theorems.antt` proves it.
+-- Assumes nothing: these are definitions.
+use Prim.Native.Nat.{ℕ}
+use mathlib.Core.Path.{_≡_}
+use mathlib.Core.Bool.{true}
+use mathlib.Core.List.{List}
+use lib.Seq.{sets}
+use Rattle.machine.specs.State.{State, Call}
+use Rattle.machine.specs.Machine.{perform, next}
+use Rattle.machine.specs.History.{fresh, after}
+use Rattle.lent.specs.Answers.{doneWith}
+use Rattle.fresh_call.specs.Calls.{cellsLent, lengthsFit, freshCall}
+use Rattle.histories.specs.Memories.{Memories}
+use Rattle.histories.specs.Stands.{Stands}
+use Rattle.histories.specs.Runs.{run}
+use Rattle.histories.specs.Follows.{Handed, numbersOf, handedBack}
+use Rattle.histories.specs.Demands.{MemoryHolds}
+use Rattle.histories.specs.Histories.{Made, calls, AllHanded, memoriesAfter, seen, freshMemories, expected}
+
+-- a fresh call that is not refused, whatever the memories held before
+pub record FreshTheorems (cells links addresses : List ℕ) (fit : lengthsFit cells links addresses ≡ true) : Type 0 where
+  pub fresh-answers : freshCall cells links addresses .0 ≡ doneWith 0 0
+  pub stands-fresh : Stands (freshMemories cells links addresses) (fresh (cellsLent cells))
+
+-- any call with any arguments, on memories that stand for a state
+pub record CallTheorems (m : Memories) (s : State) (stands : Stands m s) (c : Call) (buffer : List ℕ) (handed : Handed c buffer) : Type 0 where
+  pub same-answer : run m c buffer .answer ≡ numbersOf (perform s c .answer)
+  -- Take's written bytes are the machine's, and the rest of the buffer keeps its bytes; no other call writes to it.
+  pub same-bytes : run m c buffer .buffer ≡ sets buffer 0 (handedBack (perform s c .answer))
+  pub stands-kept : Stands (run m c buffer .memories) (next s (perform s c))
+  -- Refusals 1 and 10 are of lent memory alone: the very memories of the switch's fresh call, touched only by our calls, never bring them.
+  pub never-one : run m c buffer .answer .refusal ≡ 1 → ⊥
+  pub never-ten : run m c buffer .answer .refusal ≡ 10 → ⊥
+
+-- a fresh call and any list of calls after it
+pub record HistoryTheorems (cells links addresses : List ℕ) (fit : lengthsFit cells links addresses ≡ true) (made : List Made) (handed : AllHanded made) : Type 0 where
+  -- What the driver sees of each call is what the machine says, and the memories stand for the machine's state.
+  pub histories : seen (freshMemories cells links addresses) made ≡ expected (fresh (cellsLent cells)) made
+  pub stands : Stands (memoriesAfter (freshMemories cells links addresses) made) (after (fresh (cellsLent cells)) (calls made))
+  -- Demand 3, of the memories themselves.
+  pub holds : MemoryHolds (cellsLent cells) (memoriesAfter (freshMemories cells links addresses) made) (calls made)

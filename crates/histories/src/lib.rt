@@ -1,0 +1,91 @@
+// A driver's call, whichever it is, by the C function of its name. Its promise is `run`: so the functions that a history runs are
+// the very promises of the C functions.
+use lent::Answer;
+use settings::port::PortSettings;
+use settings::vlan::VlanSettings;
+ghost use mathlib.Core.Path.{_≡_};
+ghost use lib.ListN.{length};
+ghost use Rattle.histories.specs.Runs.{run};
+ghost use Rattle.histories.specs.Asked.{memories, cameTo, asked};
+
+pub enum Call {
+    FrameIn(u32),
+    Take(u32),
+    Age,
+    Counter(u32, u32),
+    Port(u32, PortSettings),
+    Vlan(VlanSettings),
+    ClearVlan(u32),
+    Static { gid: u32, port: u32, address: u64 },
+    Remove { gid: u32, address: u64 },
+    Map { pcp: u32, queue: u32 },
+    QueueSwitch { port: u32, queue: u32, on: u32 },
+    Drain(u32),
+    Bpdu(u32),
+}
+
+// `frame` is asked by a frame-in alone, and `buffer` lent to a take alone.
+pub fn perform(
+    cells: &mut [u8],
+    links: &mut [u32],
+    addresses: &mut [u64],
+    buffer: &mut [u8],
+    frame: &[u8],
+    call: Call,
+) -> Answer
+    ensures { λ r. ⌜ cameTo r (now (buffer .exit)) (memories (now (cells .exit)) (now (links .exit)) (now (addresses .exit))) ≡ run (memories (now (cells .entry)) (now (links .entry)) (now (addresses .entry))) (asked (now (frame .entry)) (length (now (buffer .entry))) call) (now (buffer .entry)) ⌝ }
+{
+    match call {
+        Call::FrameIn(port) => gufhrandi::gufhrandi_frame_in(cells, links, addresses, port, frame),
+        Call::Take(port) => gufhrandi::gufhrandi_take(cells, links, port, buffer),
+        Call::Age => gufhrandi::gufhrandi_age(addresses),
+        Call::Counter(port, number) => gufhrandi::gufhrandi_counter(links, port, number),
+        Call::Port(port, new) => gufhrandi::gufhrandi_port(
+            links,
+            port,
+            new.state,
+            new.assignment,
+            new.vid,
+            new.pcp,
+            new.dei,
+            new.flags,
+            new.operation.kind,
+            new.operation.tag_type,
+            new.operation.vid_source,
+            new.operation.pcp_source,
+            new.operation.vid,
+            new.operation.pcp,
+            new.operation.dei,
+        ),
+        Call::Vlan(new) => gufhrandi::gufhrandi_vlan(
+            links,
+            new.vid,
+            new.members,
+            new.gid,
+            new.operation.kind,
+            new.operation.tag_type,
+            new.operation.vid_source,
+            new.operation.pcp_source,
+            new.operation.vid,
+            new.operation.pcp,
+            new.operation.dei,
+        ),
+        Call::ClearVlan(vid) => gufhrandi::gufhrandi_clear_vlan(links, vid),
+        Call::Static { gid, port, address } => gufhrandi::gufhrandi_set_static(
+            addresses,
+            gid,
+            port,
+            address,
+        ),
+        Call::Remove { gid, address } => gufhrandi::gufhrandi_remove(addresses, gid, address),
+        Call::Map { pcp, queue } => gufhrandi::gufhrandi_map(links, pcp, queue),
+        Call::QueueSwitch { port, queue, on } => gufhrandi::gufhrandi_queue_switch(
+            links,
+            port,
+            queue,
+            on,
+        ),
+        Call::Drain(port) => gufhrandi::gufhrandi_drain(links, port),
+        Call::Bpdu(on) => gufhrandi::gufhrandi_bpdu(links, on),
+    }
+}

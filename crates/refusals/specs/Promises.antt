@@ -1,0 +1,31 @@
+-- What document 01's "Refused calls" asks of a call over lent memory, whatever its lines are. Assumes nothing: these are definitions.
+use Prim.Native.Nat.{ℕ}
+use mathlib.Core.Path.{_≡_}
+use mathlib.Core.Logic.{_↔_}
+use mathlib.Core.List.{List, []}
+use Rattle.rules.specs.Choice.{Each}
+use Rattle.rules.specs.Lines.{Fails, FirstOf}
+use Rattle.rules.specs.LineTheorems.{InOrder}
+use Rattle.rules.specs.Refusals.{Refusal, Lines, refusalNumber}
+use Rattle.lent.specs.declared.Answer.{Answer}
+use Rattle.lent.specs.Answers.{refusedBy}
+
+-- two programs that meet one promise answer the same and leave the same memories
+abbrev pub Unique : {A : Type 0} → A → Type 0
+Unique {A} promised = (one other : A) → one ≡ promised → other ≡ promised → one ≡ other
+
+-- a call with these lines, on this memory, that promises this answer and this memory
+pub record Refuses {M : Type 0} (lines : Lines) (memory : M) (promised : Answer × M) : Type 0 where
+  -- the lines stand in the order of their numbers, so that the lowest number wins
+  pub in-order : InOrder lines
+  -- "a refusal comes exactly when its line holds"
+  pub refused-exactly : (r : Refusal) → (promised .0 .refusal ≡ refusalNumber r) ↔ FirstOf lines r
+  -- "nothing changes, counters included; the answer is only the number"
+  pub nothing-else : (r : Refusal) → FirstOf lines r → promised ≡ (refusedBy r, memory)
+  pub done-exactly : (promised .0 .refusal ≡ 0) ↔ Each Fails lines
+  pub unique : Unique promised
+
+-- a call that hands back a part instead of an answer: "a refusal hands back an empty part and writes nothing"
+pub record HandsBack (lines : Lines) (memory : List ℕ) (promised : List ℕ × List ℕ) : Type 0 where
+  pub empty-if-refused : (r : Refusal) → FirstOf lines r → promised ≡ (memory, [])
+  pub unique : Unique promised
