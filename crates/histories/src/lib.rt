@@ -4,8 +4,10 @@ use lent::Answer;
 use settings::port::PortSettings;
 use settings::vlan::VlanSettings;
 ghost use mathlib.Core.Path.{_≡_};
+ghost use mathlib.Core.List.{[]};
 ghost use lib.ListN.{length};
-ghost use Rattle.histories.specs.Runs.{run};
+ghost use Rattle.fresh_call.specs.Calls.{freshCall};
+ghost use Rattle.histories.specs.Runs.{onAll, run};
 ghost use Rattle.histories.specs.Asked.{memories, cameTo, asked};
 
 pub enum Call {
@@ -22,6 +24,13 @@ pub enum Call {
     QueueSwitch { port: u32, queue: u32, on: u32 },
     Drain(u32),
     Bpdu(u32),
+}
+
+// The fresh call, with which a history begins.
+pub fn begin(cells: &[u8], links: &mut [u32], addresses: &mut [u64]) -> Answer
+    ensures { λ r. ⌜ cameTo r [] (memories (now (cells .exit)) (now (links .exit)) (now (addresses .exit))) ≡ onAll [] (freshCall (now (cells .entry)) (now (links .entry)) (now (addresses .entry))) ⌝ }
+{
+    gufhrandi::gufhrandi_fresh(cells, links, addresses)
 }
 
 // `frame` is asked by a frame-in alone, and `buffer` lent to a take alone.
