@@ -1,20 +1,22 @@
-/* speed MODE LENGTH PORTS ADDRESSES TURNS: one turn is a frame in and its takes. MODE: `switch`, the library; `cells`, plain C that
+/* speed MODE LENGTH PORTS ADDRESSES CELLS TURNS: one turn is a frame in and its takes. MODE: `switch`, the library; `cells`, plain C that
  * copies a frame into 80-byte cells and out again for each port, without switching; `copy`, a memcpy in and out; `none`, the loop alone.
- * PORTS is 1 (a known address) or 4 (a broadcast). bench/run counts the instructions of two lengths of run and divides the difference. */
+ * PORTS is 1 (a known address) or 2 to 4 (a broadcast in a VLAN of port 0 and that many others). CELLS is the switch's cell count.
+ * bench/run counts the instructions of two lengths of run and divides the difference. */
 #include <gufhrandi.h>
 #include <stdio.h>
 #include <stdlib.h>
 #include <string.h>
 
-enum { CELLS = 200, LINK_WORDS = 640 + 24 * CELLS };
+enum { CELLS = 2048, LINK_WORDS = 640 + 24 * CELLS };
 
 static uint8_t cells[GUFHRANDI_CELL * CELLS];
 static uint32_t links[LINK_WORDS];
+static size_t cell_bytes, link_words;
 static uint64_t addresses[GUFHRANDI_PLACES];
 static uint8_t frame[4096], out[4096];
 static unsigned long sum;
 
-#define LENT cells, sizeof cells, links, LINK_WORDS, addresses, GUFHRANDI_PLACES
+#define LENT cells, cell_bytes, links, link_words, addresses, GUFHRANDI_PLACES
 
 /* ---- plain cells: a free list by next numbers, a count of ports in the first cell */
 
@@ -70,7 +72,7 @@ static void by_switch(size_t length, uint32_t ports)
 {
     sum += gufhrandi_frame_in(LENT, 0, frame, length).y;
     for (uint32_t port = 1; port <= ports; port++)
-        sum += gufhrandi_take(cells, sizeof cells, links, LINK_WORDS, port, out, sizeof out).x;
+        sum += gufhrandi_take(cells, cell_bytes, links, link_words, port, out, sizeof out).x;
 }
 
 static void by_cells(size_t length, uint32_t ports)
@@ -103,15 +105,18 @@ static void address(uint8_t *at, unsigned long number)
 
 int main(int count, char **words)
 {
-    if (count != 6)
+    if (count != 7)
         return 2;
     const char *mode = words[1];
     size_t length = strtoul(words[2], NULL, 10);
     uint32_t ports = (uint32_t)strtoul(words[3], NULL, 10);
-    unsigned long known = strtoul(words[4], NULL, 10), turns = strtoul(words[5], NULL, 10);
+    unsigned long known = strtoul(words[4], NULL, 10), turns = strtoul(words[6], NULL, 10);
+    uint32_t cell_count = (uint32_t)strtoul(words[5], NULL, 10);
+    link_words = gufhrandi_link_words(cell_count);
+    cell_bytes = GUFHRANDI_CELL * (size_t)cell_count;
     void (*turn)(size_t, uint32_t) = !strcmp(mode, "switch") ? by_switch : !strcmp(mode, "cells") ? by_cells
                                    : !strcmp(mode, "copy") ? by_copy : by_none;
-    if (length < 60 || length > 4083 || (ports != 1 && ports != 4) || known < 1)
+    if (length < 60 || length > 4083 || ports < 1 || ports > 4 || known < 1 || link_words == 0)
         return 2;
     start_cells();
     if (turn == by_switch) {
@@ -123,12 +128,14 @@ int main(int count, char **words)
             if (gufhrandi_frame_in(LENT, 1, frame, 60).refusal != 0)
                 return 1;
             for (uint32_t port = 0; port < 5; port++)
-                gufhrandi_drain(links, LINK_WORDS, port);
+                gufhrandi_drain(links, link_words, port);
         }
+        if (1 < ports && gufhrandi_vlan(links, link_words, 1, (2u << ports) - 1, 0, 0, 0, 2, 2, 0, 0, 0).refusal != 0)
+            return 1;
     }
     address(frame + 6, 0xFFFE);
     for (unsigned long i = 0; i < turns; i++) {
-        if (ports == 4)
+        if (1 < ports)
             memset(frame, 0xFF, 6);
         else
             address(frame, i % known);

@@ -1,18 +1,17 @@
 -- What each change makes of address memory: of one place, that a look-up found before, or of every place. Assumes nothing: these are definitions.
-use Prim.Native.Nat.{ℕ, _+_, _-_, _^_}
+use Prim.Native.Nat.{ℕ}
 use mathlib.Core.Bool.{Bool, true, false}
 use mathlib.Core.List.{List, map}
 use lib.ListN.{getD, set}
 use Rattle.rules.specs.Choice.{if_then_else_}
-use Rattle.rules.specs.Addresses.{placeCount, learnedEntry, staticEntry, removed}
-use Rattle.addresses.specs.Numbers.{usedIn, staticIn, tableOf, numberOf}
+use Rattle.rules.specs.Addresses.{placeCount, removed}
+use Rattle.address_numbers.specs.Numbers.{staticIn, tableOf}
+pub use Rattle.address_numbers.specs.Changes.{learnedNumber, staticNumber}
+unfoldable pub use Rattle.address_numbers.specs.Changes.{markedNumber, olderNumber}
 use Rattle.addresses.specs.declared.LookUp.{LookUp}
 use Rattle.addresses.specs.declared.LookUp.the-variants.{Found, Vacant, Full, Damaged}
 
 -- ---- marking: "a hit marks the entry as used"
-
-unfoldable pub markedNumber : ℕ → ℕ
-markedNumber n = if usedIn n then n else (n + 2 ^ 55)
 
 unfoldable pub markedBy : LookUp → List ℕ → List ℕ
 markedBy (Found port place) memory = set memory place (markedNumber (getD memory place 0))
@@ -21,9 +20,6 @@ markedBy Full memory = memory
 markedBy Damaged memory = memory
 
 -- ---- learning: was there a place, and the memory
-
-abbrev pub learnedNumber : ℕ → ℕ → ℕ
-learnedNumber k port = numberOf (learnedEntry k port)
 
 -- "a match that is static stays; another takes this port and is marked used"
 unfoldable pub learnedBy : LookUp → ℕ → ℕ → List ℕ → Bool × List ℕ
@@ -34,9 +30,6 @@ learnedBy Full k port memory = (false, memory)
 learnedBy Damaged k port memory = (false, memory)
 
 -- ---- static entries and removal, by call
-
-abbrev pub staticNumber : ℕ → ℕ → ℕ
-staticNumber k port = numberOf (staticEntry k port)
 
 -- "a match becomes static with the given port, no match takes the first empty place"
 unfoldable pub staticBy : LookUp → ℕ → ℕ → List ℕ → List ℕ
@@ -52,9 +45,6 @@ removedBy Full memory = memory
 removedBy Damaged memory = memory
 
 -- ---- ageing: "every unmarked non-static entry goes, every marked non-static one loses its mark"
-
-unfoldable pub olderNumber : ℕ → ℕ
-olderNumber n = if staticIn n then n else (if usedIn n then (n - 2 ^ 55) else 0)
 
 -- how many went, and the memory
 unfoldable pub agedBy : List ℕ → ℕ × List ℕ

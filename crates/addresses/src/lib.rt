@@ -1,5 +1,4 @@
 // Address memory: 4,112 numbers, searched by key. What a change writes is found by a look-up before, so that each change is one write.
-pub mod numbers;
 
 ghost use mathlib.Core.Path.{_≡_};
 ghost use Prim.Native.Nat.{_<_, _≤_, _^_};
@@ -79,7 +78,7 @@ pub fn look_up(addresses: &[u64], key: u64) -> LookUp
     ensures { λ r. ⌜ r ≡ lookUp (now (addresses .entry)) key ⌝ }
 {
     let bucket = bucket_of(key);
-    let wanted = numbers::IN_USE + key;
+    let wanted = address_numbers::IN_USE + key;
     let mut empty = NO_PLACE;
     let mut turn = 0;
     let found = 'search: loop {
@@ -88,17 +87,17 @@ pub fn look_up(addresses: &[u64], key: u64) -> LookUp
         }
         let place = place_at(bucket, turn);
         let number = addresses[place];
-        if numbers::body_of(number) == wanted {
+        if address_numbers::body_of(number) == wanted {
             break 'search place;
         }
-        if numbers::in_range(number) {
+        if address_numbers::in_range(number) {
             empty = first_empty(empty, number, place);
             turn += 1;
         } else {
             return LookUp::Damaged;
         }
     };
-    let port = numbers::port_of(addresses[found]);
+    let port = address_numbers::port_of(addresses[found]);
     if port > 4 {
         return LookUp::Damaged;
     }
@@ -113,7 +112,7 @@ pub fn mark(addresses: &mut [u64], found: LookUp)
     let LookUp::Found { port: _, place } = found else {
         return;
     };
-    addresses[place] = numbers::marked_number(addresses[place]);
+    addresses[place] = address_numbers::marked_number(addresses[place]);
 }
 
 // Learns the key at the place that a look-up found before. Answers whether there was a place.
@@ -124,14 +123,14 @@ pub fn learn(addresses: &mut [u64], source: LookUp, key: u64, port: u32) -> bool
 {
     match source {
         LookUp::Found { port: _, place } => {
-            if numbers::is_static(addresses[place]) {
+            if address_numbers::is_static(addresses[place]) {
                 return true;
             }
-            addresses[place] = numbers::learned_number(key, port);
+            addresses[place] = address_numbers::learned_number(key, port);
             true
         }
         LookUp::Vacant(place) => {
-            addresses[place] = numbers::learned_number(key, port);
+            addresses[place] = address_numbers::learned_number(key, port);
             true
         }
         LookUp::Full => false,
@@ -147,10 +146,10 @@ pub fn set_static(addresses: &mut [u64], found: LookUp, key: u64, port: u32)
 {
     match found {
         LookUp::Found { port: _, place } => {
-            addresses[place] = numbers::static_number(key, port);
+            addresses[place] = address_numbers::static_number(key, port);
         }
         LookUp::Vacant(place) => {
-            addresses[place] = numbers::static_number(key, port);
+            addresses[place] = address_numbers::static_number(key, port);
         }
         LookUp::Full => {}
         LookUp::Damaged => {}
@@ -174,7 +173,7 @@ pub fn all_in_range(addresses: &[u64]) -> bool
 {
     let mut place = 0;
     while place < addresses.len() {
-        if numbers::in_range(addresses[place]) {
+        if address_numbers::in_range(addresses[place]) {
             place += 1;
         } else {
             return false;
@@ -192,8 +191,8 @@ pub fn age(addresses: &mut [u64]) -> u32
     let mut place = 0;
     while place < 4112 {
         let number = addresses[place];
-        gone += numbers::goes(number);
-        addresses[place] = numbers::older_number(number);
+        gone += address_numbers::goes(number);
+        addresses[place] = address_numbers::older_number(number);
         place += 1;
     }
     gone

@@ -1,7 +1,7 @@
 -- Parts of lists: beginnings of beginnings, of two lists in a row, and of parts. Assumes nothing.
 use mathlib.Core.Path.{_≡_, sym, ap, _∙_}
 use mathlib.Core.List.{List, [], _∷_, _++_}
-use Prim.Native.Nat.{ℕ, zero, suc, _+_, _-_, _≤_, _<_, min}
+use Prim.Native.Nat.{ℕ, zero, suc, _+_, _-_, _≤_, min}
 use native.Mathlib.Nat.{add-zero, suc-add, zero-add, zero-min, min-zero, suc-min-suc, zero-sub, sub-zero, suc-sub-suc}
 use native.Mathlib.Omega.{arith}
 use lib.ListN.{length, take, drop, length-take, length-drop}
@@ -47,8 +47,8 @@ drop-part k a b l h = drop-take k b (drop a l) h ∙ ap (take (b - k)) (drop-dro
 pub length-part : (a k : ℕ) (l : List ℕ) → a + k ≤ length l → length (take k (drop a l)) ≡ k
 length-part a k l h = simp (length-take, length-drop) (omega arith)
 
--- fewer than 80 bytes are left
-pub short-part : (bytes : List ℕ) (d : ℕ) → length bytes - d < 80 → take (length bytes - d) (drop d bytes) ≡ take 80 (drop d bytes)
+-- no more than 80 bytes are left
+pub short-part : (bytes : List ℕ) (d : ℕ) → length bytes - d ≤ 80 → take (length bytes - d) (drop d bytes) ≡ take 80 (drop d bytes)
 short-part bytes d h = take-all (length bytes - d) (drop d bytes) (simp length-drop (omega arith)) ∙ sym (take-all 80 (drop d bytes) (simp length-drop (omega arith)))
 
 -- the bytes after the next 80

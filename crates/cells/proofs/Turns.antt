@@ -9,7 +9,7 @@ use Rattle.slices.specs.Runs.{sets-append}
 use Rattle.cells.specs.Chains.{next, follow}
 use Rattle.cells.specs.Bytes.{storeCells, loadCells, frameIn}
 use Rattle.cells.proofs.Steps.{follow-cons}
-use Rattle.cells.proofs.Parts.{take-min, drop-min, take-append, take-take-min, drop-take, drop-part, length-part, next-drop, part-is}
+use Rattle.cells.proofs.Parts.{take-min, drop-min, take-append, take-take-min, drop-take, drop-part, length-part, short-part, next-drop, part-is}
 
 -- u bytes from place at on, of which the first cell has v
 first-part : (u v a m : ℕ) → m ≡ min v u → min u v ≡ a + m - a
@@ -22,6 +22,11 @@ module _ (l : List ℕ) (k c : ℕ) (more : 0 < k) where
   pub store-turn : (mem bytes : List ℕ) (d e : ℕ) → e ≡ min (d + 80) (length bytes)
       → storeCells (sets mem (80 * c) (take 80 (drop d bytes))) (follow l (k - 1) (next l c)) (drop e bytes) ≡ storeCells mem (follow l k c) (drop d bytes)
   store-turn mem bytes d e p = rw (follow-cons l k c more, next-drop bytes d e p)
+
+  -- the last cell takes what is left
+  pub store-last : (mem bytes : List ℕ) (d : ℕ) → k ≡ 1 → length bytes ≤ d + 80
+      → sets mem (80 * c) (take (length bytes - d) (drop d bytes)) ≡ storeCells mem (follow l k c) (drop d bytes)
+  store-last mem bytes d one h = rw (one, short-part bytes d (omega arith))
 
   -- the first cell takes the header, and as much of the frame as there is room for
   pub store-first : (mem header frame : List ℕ) (m : ℕ) → length header ≡ 8 → m ≡ min 72 (length frame)
@@ -51,6 +56,22 @@ module _ (l : List ℕ) (k c : ℕ) (more : 0 < k) where
         let first : take (end - d) cell ≡ x = take-take-min (end - d) 80 (drop (80 * c) mem) ∙ ap (λ (m : ℕ). take m (drop (80 * c) mem)) same in
         let split : take (end - d) (cell ++ rest) ≡ x ++ take (end - e) rest = take-append (end - d) cell rest ∙ ap₂ _++_ first (ap (λ (m : ℕ). take m rest) left) in
         rw (follow-cons l k c more, split, sets-append out d x (take (end - e) rest), x-long)
+
+    -- a turn that reads a whole cell
+    pub load-whole : (d end : ℕ) → d + 80 ≤ end
+        → sets (sets out d (take 80 (drop (80 * c) mem))) (d + 80) (take (end - (d + 80)) (loadCells mem (follow l (k - 1) (next l c))))
+        ≡ sets out d (take (end - d) (loadCells mem (follow l k c)))
+    load-whole d end h =
+        let whole : min 80 (end - d) ≡ 80 = omega arith in
+        rw whole at (load-turn d (d + 80) end (omega arith) (omega arith))
+
+    -- the last cell is read up to place end
+    pub load-last : (d end : ℕ) → d ≤ end → end ≤ d + 80
+        → sets out d (take (80 * c + (end - d) - 80 * c) (drop (80 * c) mem)) ≡ sets out d (take (end - d) (loadCells mem (follow l k c)))
+    load-last d end h g =
+        let part : min 80 (end - d) ≡ 80 * c + (end - d) - 80 * c = omega arith in
+        let nothing : end - end ≡ 0 = omega arith in
+        rw (part, nothing) at (load-turn d end end h (omega arith))
 
     -- the first cell is read past the header and the bytes that are left out
     pub load-first : (from long at m : ℕ) → from ≤ 72 → from ≤ long → m ≡ min (72 - from) (long - from)

@@ -2,9 +2,10 @@
 ghost use mathlib.Core.Path.{_≡_};
 ghost use mathlib.Core.Bool.{true};
 ghost use mathlib.Core.List.{_++_};
-ghost use Prim.Native.Nat.{_+_, _-_, _≤_, min};
+ghost use Prim.Native.Nat.{_+_, _-_, _*_, _≤_, min};
 ghost use lib.ListN.{length, take, drop};
 ghost use lib.Seq.{sets};
+ghost use Rattle.rules.specs.Cells as rules;
 ghost use Rattle.layout.specs.Places.{linkWords, cellBytes};
 ghost use Rattle.cells.specs.Chains.{follow, allBelow};
 ghost use Rattle.cells.specs.Bytes.{storeCells, loadCells, frameIn};
@@ -14,21 +15,7 @@ use layout::FIRST_PART;
 use layout::NEXT;
 use layout::STORED_HEADER;
 
-// The 80 bytes from place done on, or what there is of them, into the cell at place a. Answers the place behind them.
-fn store_cell(cells: &mut [u8], a: usize, bytes: &[u8], done: usize) -> usize
-    requires { ⌜ (a + 80 ≤ length (now cells)) × (done ≤ length (now bytes)) ⌝ }
-    ensures { λ r. ⌜ (r ≡ min (done + 80) (length (now (bytes .entry)))) × (now (cells .exit) ≡ sets (now (cells .entry)) a (take 80 (drop done (now (bytes .entry))))) ⌝ }
-{
-    if bytes.len() - done < CELL_SIZE {
-        slices::copy(cells, a, &bytes[done..]);
-        bytes.len()
-    } else {
-        slices::copy_cell(cells, a, bytes, done);
-        done + CELL_SIZE
-    }
-}
-
-// The bytes from place from on into the k cells from c on.
+// The bytes from place from on into the k cells from c on. Each cell but the last is filled.
 fn store_cells(
     cells: &mut [u8],
     links: &[u32],
@@ -38,18 +25,22 @@ fn store_cells(
     bytes: &[u8],
     from: usize,
 )
-    requires { ⌜ (linkWords n ≤ length (now links)) × (cellBytes n ≤ length (now cells)) × (from ≤ length (now bytes)) ⌝ }
+    requires { ⌜ (linkWords n ≤ length (now links)) × (cellBytes n ≤ length (now cells)) ⌝ }
+    requires { ⌜ (from + 80 * (k - 1) ≤ length (now bytes)) × (length (now bytes) ≤ from + 80 * k) ⌝ }
     requires { ⌜ allBelow n (follow (now links) k c) ≡ true ⌝ }
     ensures { λ _. ⌜ now (cells .exit) ≡ storeCells (now (cells .entry)) (follow (now (links .entry)) k c) (drop from (now (bytes .entry))) ⌝ }
 {
-    let mut at = c;
+    let mut at = c as usize;
     let mut rest = k;
     let mut done = from;
-    while 0 < rest {
-        let i = at as usize;
-        done = store_cell(cells, CELL_SIZE * i, bytes, done);
-        at = links[NEXT + CELL_STRIDE * i];
+    while 1 < rest {
+        slices::copy_cell(cells, CELL_SIZE * at, bytes, done);
+        at = links[NEXT + CELL_STRIDE * at] as usize;
         rest -= 1;
+        done += CELL_SIZE;
+    }
+    if rest == 1 {
+        slices::copy(cells, CELL_SIZE * at, &bytes[done..]);
     }
 }
 
@@ -69,7 +60,7 @@ pub fn store(
     header: &[u8; 8],
     frame: &[u8],
 )
-    requires { ⌜ (linkWords n ≤ length (now links)) × (cellBytes n ≤ length (now cells)) × (1 ≤ k) ⌝ }
+    requires { ⌜ (linkWords n ≤ length (now links)) × (cellBytes n ≤ length (now cells)) × (k ≡ rules.cells (length (now frame))) ⌝ }
     requires { ⌜ allBelow n (follow (now links) k first) ≡ true ⌝ }
     ensures { λ _. ⌜ now (cells .exit) ≡ storeCells (now (cells .entry)) (follow (now (links .entry)) k first) (now (header .entry) ++ now (frame .entry)) ⌝ }
 {
@@ -82,22 +73,7 @@ pub fn store(
     store_cells(cells, links, n, next, k - 1, frame, m);
 }
 
-// The cell at place a into out, from place at on up to its end or to place end. Answers the place behind.
-fn load_cell(cells: &[u8], a: usize, out: &mut [u8], at: usize, end: usize) -> usize
-    requires { ⌜ (a + 80 ≤ length (now cells)) × (at ≤ end) × (end ≤ length (now out)) ⌝ }
-    ensures { λ r. ⌜ (r ≡ min (at + 80) end) × (now (out .exit) ≡ sets (now (out .entry)) at (take (min 80 (end - at)) (drop a (now (cells .entry))))) ⌝ }
-{
-    if end - at < CELL_SIZE {
-        let e = a + (end - at);
-        slices::copy(out, at, &cells[a..e]);
-        end
-    } else {
-        slices::copy_cell(out, at, cells, a);
-        at + CELL_SIZE
-    }
-}
-
-// The bytes of the k cells from c on into out, from place at on, up to place end.
+// The bytes of the k cells from c on into out, from place at up to place end. Each cell but the last is read whole.
 fn load_cells(
     cells: &[u8],
     links: &[u32],
@@ -108,18 +84,24 @@ fn load_cells(
     at: usize,
     end: usize,
 )
-    requires { ⌜ (linkWords n ≤ length (now links)) × (cellBytes n ≤ length (now cells)) × (at ≤ end) × (end ≤ length (now out)) ⌝ }
+    requires { ⌜ (linkWords n ≤ length (now links)) × (cellBytes n ≤ length (now cells)) × (end ≤ length (now out)) ⌝ }
+    requires { ⌜ (at + 80 * (k - 1) ≤ end) × (end ≤ at + 80 * k) ⌝ }
     requires { ⌜ allBelow n (follow (now links) k c) ≡ true ⌝ }
     ensures { λ _. ⌜ now (out .exit) ≡ sets (now (out .entry)) at (take (end - at) (loadCells (now (cells .entry)) (follow (now (links .entry)) k c))) ⌝ }
 {
-    let mut cell = c;
+    let mut cell = c as usize;
     let mut rest = k;
     let mut done = at;
-    while 0 < rest {
-        let i = cell as usize;
-        done = load_cell(cells, CELL_SIZE * i, out, done, end);
-        cell = links[NEXT + CELL_STRIDE * i];
+    while 1 < rest {
+        slices::copy_cell(out, done, cells, CELL_SIZE * cell);
+        cell = links[NEXT + CELL_STRIDE * cell] as usize;
         rest -= 1;
+        done += CELL_SIZE;
+    }
+    if rest == 1 {
+        let a = CELL_SIZE * cell;
+        let e = a + (end - done);
+        slices::copy(out, done, &cells[a..e]);
     }
 }
 
@@ -135,7 +117,7 @@ pub fn load(
     out: &mut [u8],
     at: usize,
 )
-    requires { ⌜ (linkWords n ≤ length (now links)) × (cellBytes n ≤ length (now cells)) × (1 ≤ k) ⌝ }
+    requires { ⌜ (linkWords n ≤ length (now links)) × (cellBytes n ≤ length (now cells)) × (k ≡ rules.cells long) ⌝ }
     requires { ⌜ (from ≤ 72) × (from ≤ long) × (at + (long - from) ≤ length (now out)) ⌝ }
     requires { ⌜ allBelow n (follow (now links) k first) ≡ true ⌝ }
     ensures { λ _. ⌜ now (out .exit) ≡ sets (now (out .entry)) at (drop from (frameIn (now (cells .entry)) (follow (now (links .entry)) k first) long)) ⌝ }

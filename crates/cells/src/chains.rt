@@ -13,12 +13,11 @@ pub fn all_below(links: &[u32], n: usize, c: u32, k: usize) -> bool
     requires { ⌜ linkWords n ≤ length (now links) ⌝ }
     ensures { λ r. ⌜ r ≡ spec.allBelow n (spec.follow (now (links .entry)) k c) ⌝ }
 {
-    let mut at = c;
+    let mut at = c as usize;
     let mut rest = k;
     while 0 < rest {
-        let i = at as usize;
-        if i < n {
-            at = links[NEXT + CELL_STRIDE * i];
+        if at < n {
+            at = links[NEXT + CELL_STRIDE * at] as usize;
             rest -= 1;
         } else {
             return false;

@@ -26,9 +26,9 @@ use Rattle.settings.specs.RangeLaws.{vlan-range}
 use Rattle.settings.specs.declared.vlan.VlanSettings.{VlanSettings}
 use Rattle.settings.specs.declared.table.Found.the-variants.{At, Nowhere, Damaged}
 use Rattle.addresses.specs.Numbers.{tableOf}
-use Rattle.frame_in.specs.declared.arrival.Arrival.{Arrival}
-use Rattle.frame_in.specs.Plans.{damagedPlan, dropPlan}
-use Rattle.frame_in.specs.Arrivals.{portRules, absentReason}
+use Rattle.frame_rules.specs.declared.arrival.Arrival.{Arrival}
+use Rattle.frame_rules.specs.Plans.{damagedPlan, dropPlan}
+use Rattle.frame_rules.specs.Arrivals.{portRules, absentReason}
 use Rattle.frame_in.specs.Met.{unlessDropped, metMember, metEntry, metTable, metFrame}
 use Rattle.frame_in.specs.Call.{isNothing}
 use Rattle.frame_in.specs.Judged.{Judged, Way}

@@ -13,14 +13,14 @@ use Rattle.cells.specs.Free.{taken}
 use Rattle.cells.proofs.Apart.{taken-ring}
 use Rattle.queues.specs.Rings.{canPush, pushed}
 use Rattle.queues.proofs.Apart.{pushed-ring}
-use Rattle.settings.specs.Counters.{bumped}
+use Rattle.words.specs.Counters.{bumped}
 use Rattle.addresses.specs.Writes.{markedBy, learnedBy}
-use Rattle.frame_in.specs.declared.plan.Lesson.{Lesson}
-use Rattle.frame_in.specs.declared.plan.Tests.{Tests}
-use Rattle.frame_in.specs.declared.plan.Plan.{Plan}
-use Rattle.frame_in.specs.Room.{ringReady, ringsReady}
+use Rattle.frame_rules.specs.declared.plan.Lesson.{Lesson}
+use Rattle.frame_rules.specs.declared.plan.Tests.{Tests}
+use Rattle.frame_rules.specs.declared.plan.Plan.{Plan}
+use Rattle.frame_rules.specs.Room.{ringReady, ringsReady}
 use Rattle.frame_in.specs.Carried.{countTest, countedTests, countQueued, countedQueued, countIf, countedOutcome, countedBy, pushedIf, pushedTests, learnedLesson, lessonBy}
-use Rattle.frame_in.proofs.RoomOutcomes.{all-ready}
+use Rattle.frame_rules.proofs.RoomOutcomes.{all-ready}
 
 -- ---- counters
 

@@ -17,10 +17,10 @@ use Rattle.layout.specs.Places.{ringOfQueue}
 use Rattle.machine.specs.Events.{Event, portOf, counterOf}
 use Rattle.machine.specs.Events as Events
 use Rattle.machine.specs.FrameIn.{mask, isNone, testEvent, testEvents, lessonEvents, fateEvents, queuedAt, outcomeEvents, Outcome, frameInEvents}
-use Rattle.frame_in.specs.Candidates.{testNumber, numbersOf, anyCandidateIn}
-use Rattle.frame_in.specs.Room.{leftMask}
+use Rattle.frame_rules.specs.Candidates.{testNumber, numbersOf, anyCandidateIn}
+use Rattle.frame_rules.specs.Room.{leftMask}
 use Rattle.frame_in.specs.Carried.{countTest, countedTests, countQueued, countedQueued, countIf, pushedIf, pushedTests}
-use Rattle.settings.specs.Counters.{bumped}
+use Rattle.words.specs.Counters.{bumped}
 use Rattle.frame_in.specs.Counting.{counted}
 use Rattle.frame_in.specs.Call.{pushedAt}
 

@@ -16,9 +16,9 @@ use Rattle.cells.specs.Bytes.{storeCells}
 use Rattle.cells.specs.Stored.{storedBytes}
 use Rattle.cells.specs.Free.{freeCount, firstFree, roomFor, taken, takeCells}
 use Rattle.cells.specs.declared.free.Room.the-variants.{Enough, NoRoom, Damaged}
-use Rattle.frame_in.specs.declared.plan.Tests.{Tests}
-use Rattle.frame_in.specs.declared.plan.Plan.{Plan}
-use Rattle.frame_in.specs.Room.{ringsReady}
+use Rattle.frame_rules.specs.declared.plan.Tests.{Tests}
+use Rattle.frame_rules.specs.declared.plan.Plan.{Plan}
+use Rattle.frame_rules.specs.Room.{ringsReady}
 use Rattle.frame_in.specs.Carried.{countedBy, pushedTests, joinedAt, joinedBy, storedAt, storedBy, joinAt, joinBy, lessonBy, carriedOut}
 use Rattle.frame_in.specs.Call.{Memories}
 use Rattle.frame_in.proofs.Carries.{ready-taken}

@@ -22,20 +22,20 @@ use Rattle.addresses.specs.Search.{placeOf}
 use Rattle.cells.specs.Free.{freeCount, roomFor}
 use Rattle.cells.specs.declared.free.Room.{Room}
 use Rattle.cells.specs.declared.free.Room.the-variants.{Enough, NoRoom, Damaged}
-use Rattle.frame_in.specs.declared.plan.Lesson.{Lesson}
-use Rattle.frame_in.specs.declared.plan.Offer.{Offer}
-use Rattle.frame_in.specs.declared.plan.Plan.{Plan}
-use Rattle.frame_in.specs.Plans.{noLesson, noTests, damagedPlan, lessonPlan, dropPlan, offerPlan}
-use Rattle.frame_in.specs.Stored.{storedHeader}
-use Rattle.frame_in.specs.Candidates.{numbersOf}
-use Rattle.frame_in.specs.Room.{leftMask, ringsReady, roomMet, metRoom, offered}
+use Rattle.frame_rules.specs.declared.plan.Lesson.{Lesson}
+use Rattle.frame_rules.specs.declared.plan.Offer.{Offer}
+use Rattle.frame_rules.specs.declared.plan.Plan.{Plan}
+use Rattle.frame_rules.specs.Plans.{noLesson, noTests, damagedPlan, lessonPlan, dropPlan, offerPlan}
+use Rattle.frame_rules.specs.Stored.{storedHeader}
+use Rattle.frame_rules.specs.Candidates.{numbersOf}
+use Rattle.frame_rules.specs.Room.{leftMask, ringsReady, roomMet, metRoom, offered}
 use Rattle.frame_in.specs.Carried.{countTest, countedTests, lessonBy, Ready}
 use Rattle.frame_in.specs.Met.{met}
 use Rattle.frame_in.specs.Call.{verdictOf, outcomeFor, isLearned, learnedIn}
 use Rattle.frame_in.specs.Counting.{counted}
 use Rattle.frame_in.specs.Judged.{Lent, Judged}
 use Rattle.frame_in.proofs.Counts.{tests-counted, left-is, none-is}
-use Rattle.frame_in.proofs.RoomOutcomes.{none-left, room-damaged, room-none, room-enough, rings-damaged}
+use Rattle.frame_rules.proofs.RoomOutcomes.{none-left, room-damaged, room-none, room-enough, rings-damaged}
 use Rattle.frame_in.proofs.Joins.{enough, no-room}
 use Rattle.frame_in.proofs.Verdicts.{not-zero, dropped-carried, queued-carried}
 

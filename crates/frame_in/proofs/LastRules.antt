@@ -14,12 +14,12 @@ use Rattle.rules.specs.Arrival.{drop, offer, Verdict, testFor, candidateRules, 
 use Rattle.rules.proofs.Choice.{or-left, or-right}
 use Rattle.settings.specs.SettingsOf.{settingsOf}
 use Rattle.addresses.specs.Numbers.{tableOf}
-use Rattle.frame_in.specs.declared.plan.Lesson.{Lesson}
-use Rattle.frame_in.specs.declared.plan.Tests.{Tests}
-use Rattle.frame_in.specs.declared.plan.Offer.{Offer}
-use Rattle.frame_in.specs.Plans.{damagedPlan, lessonPlan}
-use Rattle.frame_in.specs.Candidates.{anyDamaged, anyCandidateIn}
-use Rattle.frame_in.specs.Room.{leftMask, metRoom, offered}
+use Rattle.frame_rules.specs.declared.plan.Lesson.{Lesson}
+use Rattle.frame_rules.specs.declared.plan.Tests.{Tests}
+use Rattle.frame_rules.specs.declared.plan.Offer.{Offer}
+use Rattle.frame_rules.specs.Plans.{damagedPlan, lessonPlan}
+use Rattle.frame_rules.specs.Candidates.{anyDamaged, anyCandidateIn}
+use Rattle.frame_rules.specs.Room.{leftMask, metRoom, offered}
 use Rattle.frame_in.specs.Met.{metTests, met}
 use Rattle.frame_in.specs.Judged.{Judged}
 use Rattle.frame_in.specs.Stages.{packet, Tested}

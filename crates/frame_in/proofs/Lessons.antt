@@ -22,8 +22,8 @@ use Rattle.addresses.specs.declared.LookUp.the-variants.{Full}
 use Rattle.addresses.proofs.LookUps.{look-up-finds, place-inside, port-inside}
 use Rattle.addresses.proofs.Steps.{step-theorems}
 use Rattle.addresses.proofs.Frames.{frame-theorems}
-use Rattle.frame_in.specs.declared.plan.Lesson.{Lesson}
-use Rattle.frame_in.specs.Candidates.{destinationLookUp, chosenPort}
+use Rattle.frame_rules.specs.declared.plan.Lesson.{Lesson}
+use Rattle.frame_rules.specs.Candidates.{destinationLookUp, chosenPort}
 use Rattle.frame_in.specs.Carried.{learnedLesson, lessonBy}
 use Rattle.frame_in.specs.Call.{lessonIn}
 

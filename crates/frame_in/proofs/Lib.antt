@@ -1,9 +1,4 @@
-pub mod States
-pub mod Arrivals
-pub mod CandidateTests
-pub mod RoomOutcomes
 pub mod Counts
-pub mod TestNumbers
 pub mod Carries
 pub mod Verdicts
 pub mod Joins
@@ -17,3 +12,4 @@ pub mod Refused
 pub mod Undamaged
 pub mod Tables
 pub mod Theorems
+pub mod TestNumbers

@@ -18,30 +18,30 @@ use Rattle.layout.specs.Places.{mapWord}
 use Rattle.settings.specs.Records.{operationIs, vlanIs}
 use Rattle.settings.specs.SettingsOf.{queuesOf, settingsOf}
 use Rattle.settings.specs.RangeLaws.{vlan-range}
-use Rattle.settings.specs.Words.{wordWithin}
+use Rattle.words.specs.Words.{wordWithin}
 use Rattle.settings.specs.declared.vlan.VlanSettings.{VlanSettings}
 use Rattle.settings.specs.declared.table.Found.the-variants.{Damaged}
-use Rattle.settings.specs.declared.word.Word.the-variants.{Within}
-use Rattle.settings.specs.declared.word.Word.the-variants as Words
+use Rattle.words.specs.declared.word.Word.the-variants.{Within}
+use Rattle.words.specs.declared.word.Word.the-variants as Words
 use Rattle.addresses.specs.Numbers.{tableOf}
 use Rattle.addresses.specs.Search.{lookUp, damaged}
 use Rattle.addresses.specs.declared.LookUp.{LookUp}
 use Rattle.addresses.proofs.LookUps.{place-inside}
-use Rattle.frame_in.specs.declared.arrival.Arrival.{Arrival}
-use Rattle.frame_in.specs.declared.plan.Lesson.{Lesson}
-use Rattle.frame_in.specs.declared.plan.Tests.{Tests}
-use Rattle.frame_in.specs.declared.plan.Offer.{Offer}
-use Rattle.frame_in.specs.Plans.{damagedPlan}
-use Rattle.frame_in.specs.Stored.{flagNumber, headerWord, operationByte, storedHeader}
-use Rattle.frame_in.specs.Candidates.{destinationLookUp, chosenPort, numbersOf, numbersAt, anyDamaged}
+use Rattle.frame_rules.specs.declared.arrival.Arrival.{Arrival}
+use Rattle.frame_rules.specs.declared.plan.Lesson.{Lesson}
+use Rattle.frame_rules.specs.declared.plan.Tests.{Tests}
+use Rattle.frame_rules.specs.declared.plan.Offer.{Offer}
+use Rattle.frame_rules.specs.Plans.{damagedPlan}
+use Rattle.frame_rules.specs.Stored.{flagNumber, headerWord, operationByte, storedHeader}
+use Rattle.frame_rules.specs.Candidates.{destinationLookUp, chosenPort, numbersOf, numbersAt, anyDamaged}
 use Rattle.frame_in.specs.Carried.{lessonBy}
 use Rattle.frame_in.specs.Met.{metTests, metMember}
 use Rattle.frame_in.specs.Call.{lessonIn, learnedIn}
 use Rattle.frame_in.specs.Judged.{Judged}
 use Rattle.frame_in.specs.Stages.{packet, Member, Tested}
-use Rattle.frame_in.proofs.States.{header-word}
-use Rattle.frame_in.proofs.CandidateTests.{within-is, damaged-word}
-use Rattle.frame_in.proofs.TestNumbers.{numbers-are}
+use Rattle.frame_rules.proofs.States.{header-word}
+use Rattle.frame_rules.proofs.CandidateTests.{within-is, damaged-word}
+use Rattle.frame_rules.proofs.TestNumbers.{numbers-are}
 use Rattle.frame_in.proofs.Lessons.{chosen-is, destination-place, placed-is, lesson-in}
 use Rattle.frame_in.proofs.Judgements.{damaged-judged}
 use Rattle.frame_in.proofs.Steps.{way-on}

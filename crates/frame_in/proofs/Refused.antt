@@ -13,7 +13,7 @@ use Rattle.layout.specs.Places.{linkWords, cellBytes}
 use Rattle.lent.specs.declared.Answer.{Answer}
 use Rattle.lent.specs.Lengths.{cellCount, linksFit, cellsFit, addressesFit}
 use Rattle.lent.specs.Fits.{links-fit, cells-fit, addresses-fit}
-use Rattle.frame_in.specs.declared.plan.Plan.{Plan}
+use Rattle.frame_rules.specs.declared.plan.Plan.{Plan}
 use Rattle.frame_in.specs.Carried.{carriedOut, Ready}
 use Rattle.frame_in.specs.Met.{met}
 use Rattle.frame_in.specs.Call.{Memories, entered, frameInCall}

@@ -21,27 +21,27 @@ use Rattle.machine.specs.CallTheorems.{outcomeNumber}
 use Rattle.layout.specs.Places.{bpduWord}
 use Rattle.settings.specs.Records.{portIs, portAt}
 use Rattle.settings.specs.SettingsOf.{settingsOf, bpduOf}
-use Rattle.settings.specs.Words.{wordWithin}
+use Rattle.words.specs.Words.{wordWithin}
 use Rattle.settings.specs.declared.port.PortSettings.{PortSettings}
 use Rattle.settings.specs.declared.table.Found.the-variants.{Damaged}
-use Rattle.settings.specs.declared.word.Word.the-variants.{Within}
-use Rattle.settings.specs.declared.word.Word.the-variants as Words
+use Rattle.words.specs.declared.word.Word.the-variants.{Within}
+use Rattle.words.specs.declared.word.Word.the-variants as Words
 use Rattle.addresses.specs.Numbers.{tableOf}
-use Rattle.frame_in.specs.declared.arrival.Arrival.{Arrival}
-use Rattle.frame_in.specs.declared.plan.Tests.{Tests}
-use Rattle.frame_in.specs.declared.plan.Offer.{Offer}
-use Rattle.frame_in.specs.Plans.{noLesson, damagedPlan, dropPlan}
-use Rattle.frame_in.specs.Stored.{kindNumber, typeNumber, sourceNumber, flagNumber, headerWord, operationByte, storedHeader}
-use Rattle.frame_in.specs.Arrivals.{ArrivalIs}
-use Rattle.frame_in.specs.Candidates.{bpduNumbers, anyDamaged}
-use Rattle.frame_in.specs.Room.{metRoom, offered}
+use Rattle.frame_rules.specs.declared.arrival.Arrival.{Arrival}
+use Rattle.frame_rules.specs.declared.plan.Tests.{Tests}
+use Rattle.frame_rules.specs.declared.plan.Offer.{Offer}
+use Rattle.frame_rules.specs.Plans.{noLesson, damagedPlan, dropPlan}
+use Rattle.frame_rules.specs.Stored.{kindNumber, typeNumber, sourceNumber, flagNumber, headerWord, operationByte, storedHeader}
+use Rattle.frame_rules.specs.Arrivals.{ArrivalIs}
+use Rattle.frame_rules.specs.Candidates.{bpduNumbers, anyDamaged}
+use Rattle.frame_rules.specs.Room.{metRoom, offered}
 use Rattle.frame_in.specs.Met.{unlessDropped, metFrame, metBpdu, metPort, met}
 use Rattle.frame_in.specs.Call.{verdictOf, isNothing, isLearned}
 use Rattle.frame_in.specs.Judged.{Lent, Judged, Way}
 use Rattle.frame_in.specs.Stages.{packet, PastEarly, AsBpdu, Ordinary}
-use Rattle.frame_in.proofs.States.{header-word}
-use Rattle.frame_in.proofs.CandidateTests.{within-is, damaged-word}
-use Rattle.frame_in.proofs.TestNumbers.{port-is, bpdu-numbers-are}
+use Rattle.frame_rules.proofs.States.{header-word}
+use Rattle.frame_rules.proofs.CandidateTests.{within-is, damaged-word}
+use Rattle.frame_rules.proofs.TestNumbers.{port-is, bpdu-numbers-are}
 use Rattle.frame_in.proofs.Judgements.{never-zero, Taught, damaged-judged, nothing-taught, offer-judged, drop-judged}
 
 -- ---- a reason, or none

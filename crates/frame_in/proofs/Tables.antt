@@ -28,8 +28,8 @@ use Rattle.settings.specs.declared.table.Found.{Found}
 use Rattle.settings.specs.declared.table.Found.the-variants.{At, Nowhere, Damaged}
 use Rattle.addresses.specs.Numbers.{tableOf}
 use Rattle.addresses.specs.Search.{lookUp, damaged}
-use Rattle.frame_in.specs.Arrivals.{portRules}
-use Rattle.frame_in.specs.Candidates.{destinationLookUp}
+use Rattle.frame_rules.specs.Arrivals.{portRules}
+use Rattle.frame_rules.specs.Candidates.{destinationLookUp}
 use Rattle.frame_in.specs.Met.{unlessDropped, metMember, metEntry, metTable, metFrame, metBpdu, metPort, met}
 use Rattle.frame_in.specs.Call.{verdictOf, isNothing, isLearned, lessonIn, learnedIn}
 use Rattle.frame_in.proofs.Barring.{laterRules, rules-split, rules-later}

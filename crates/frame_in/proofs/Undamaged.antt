@@ -37,12 +37,12 @@ use Rattle.cells.specs.Free.{roomFor}
 use Rattle.cells.specs.declared.free.Room.{Room}
 use Rattle.cells.specs.declared.free.Room.the-variants.{Enough, NoRoom}
 use Rattle.cells.specs.declared.free.Room.the-variants as Rooms
-use Rattle.frame_in.specs.declared.plan.Tests.{Tests}
-use Rattle.frame_in.specs.Candidates.{destinationLookUp, chosenPort, isCandidateAt, switchNumber, candidateNumber, portNumber, numbersAt, bpduNumbers, anyDamaged}
-use Rattle.frame_in.specs.Room.{leftMask, ringReady, ringsReady, roomMet, metRoom}
+use Rattle.frame_rules.specs.declared.plan.Tests.{Tests}
+use Rattle.frame_rules.specs.Candidates.{destinationLookUp, chosenPort, isCandidateAt, switchNumber, candidateNumber, portNumber, numbersAt, bpduNumbers, anyDamaged}
+use Rattle.frame_rules.specs.Room.{leftMask, ringReady, ringsReady, roomMet, metRoom}
 use Rattle.frame_in.specs.Met.{unlessDropped, metTests, metMember, metEntry, metTable, metFrame, metBpdu, metPort, met}
 use Rattle.frame_in.specs.InRange.{InRange}
-use Rattle.frame_in.proofs.TestNumbers.{port-is}
+use Rattle.frame_rules.proofs.TestNumbers.{port-is}
 
 pass-over : (o : Option Reason) (m : Bool) → m ≡ false → unlessDropped o m ≡ false
 unfolding unlessDropped

@@ -17,12 +17,12 @@ use Rattle.lent.specs.declared.Answer.{Answer}
 use Rattle.lent.specs.Lengths.{cellCount}
 use Rattle.lent.specs.Answers.{doneWith}
 use Rattle.cells.specs.Free.{firstFree, taken}
-use Rattle.frame_in.specs.declared.plan.Plan.{Plan}
-use Rattle.frame_in.specs.Stored.{storedHeader}
-use Rattle.frame_in.specs.Candidates.{numbersOf}
-use Rattle.frame_in.specs.Room.{leftMask}
+use Rattle.frame_rules.specs.declared.plan.Plan.{Plan}
+use Rattle.frame_rules.specs.Stored.{storedHeader}
+use Rattle.frame_rules.specs.Candidates.{numbersOf}
+use Rattle.frame_rules.specs.Room.{leftMask}
 use Rattle.frame_in.specs.Carried.{countedTests, countedQueued, countIf, countedOutcome, countedBy, joinedAt, joinedBy, storedAt, storedBy, lessonBy, carriedOut}
-use Rattle.settings.specs.Counters.{bumped}
+use Rattle.words.specs.Counters.{bumped}
 use Rattle.frame_in.specs.Counting.{counted}
 use Rattle.frame_in.specs.Call.{Memories, verdictOf, outcomeFor, storedFor, joinedFor, learnedIn, answerFor, enteredAs, entered}
 use Rattle.frame_in.proofs.Counts.{queued-counted, pushed-tests, left-is, events-counted}

@@ -28,8 +28,8 @@ use Rattle.cells.specs.Bytes.{storeCells}
 use Rattle.cells.specs.Stored.{storedBytes}
 use Rattle.cells.specs.Free.{freeCount, firstFree, taken}
 use Rattle.queues.specs.Rings.{pushed}
-use Rattle.frame_in.specs.Stored.{storedHeader}
-use Rattle.frame_in.specs.Candidates.{destinationLookUp}
+use Rattle.frame_rules.specs.Stored.{storedHeader}
+use Rattle.frame_rules.specs.Candidates.{destinationLookUp}
 use Rattle.frame_in.specs.Counting.{counted}
 use Rattle.frame_in.specs.Met.{met}
 

@@ -19,11 +19,11 @@ use Rattle.cells.specs.declared.free.Room.the-variants.{Enough}
 use Rattle.queues.specs.Rings.{pushed}
 use Rattle.addresses.specs.Search.{placeOf}
 use Rattle.addresses.specs.Writes.{markedBy, learnedBy}
-use Rattle.frame_in.specs.declared.plan.Lesson.{Lesson}
-use Rattle.frame_in.specs.declared.plan.Tests.{Tests}
-use Rattle.frame_in.specs.declared.plan.Plan.{Plan}
-use Rattle.frame_in.specs.Room.{ringsReady}
-use Rattle.settings.specs.Counters.{bumped}
+use Rattle.frame_rules.specs.declared.plan.Lesson.{Lesson}
+use Rattle.frame_rules.specs.declared.plan.Tests.{Tests}
+use Rattle.frame_rules.specs.declared.plan.Plan.{Plan}
+use Rattle.frame_rules.specs.Room.{ringsReady}
+use Rattle.words.specs.Counters.{bumped}
 
 -- ---- counters
 

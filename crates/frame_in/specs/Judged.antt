@@ -9,7 +9,7 @@ use Rattle.rules.specs.Arrival.{Verdict}
 use Rattle.layout.specs.Places.{linkWords, cellBytes}
 use Rattle.lent.specs.Lengths.{cellCount}
 use Rattle.settings.specs.SettingsOf.{settingsOf}
-use Rattle.frame_in.specs.declared.plan.Plan.{Plan}
+use Rattle.frame_rules.specs.declared.plan.Plan.{Plan}
 use Rattle.frame_in.specs.Carried.{carriedOut, Ready}
 use Rattle.frame_in.specs.Met.{met}
 use Rattle.frame_in.specs.Call.{verdictOf, isLearned, entered}

@@ -1,9 +1,4 @@
-pub mod Stored
 pub mod Counting
-pub mod Plans
-pub mod Arrivals
-pub mod Candidates
-pub mod Room
 pub mod Carried
 pub mod Met
 pub mod Call
@@ -11,3 +6,5 @@ pub mod Judged
 pub mod Stages
 pub mod InRange
 pub mod Theorems
+pub mod Stored
+pub mod Candidates

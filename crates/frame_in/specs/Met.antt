@@ -22,10 +22,10 @@ use Rattle.settings.specs.SettingsOf.{settingsOf}
 use Rattle.settings.specs.declared.table.Found.{Found}
 use Rattle.settings.specs.declared.table.Found.the-variants.{At, Nowhere, Damaged}
 use Rattle.addresses.specs.Search.{lookUp, damaged}
-use Rattle.frame_in.specs.declared.plan.Tests.{Tests}
-use Rattle.frame_in.specs.Arrivals.{portRules}
-use Rattle.frame_in.specs.Candidates.{destinationLookUp, chosenPort, numbersAt, bpduNumbers, anyDamaged}
-use Rattle.frame_in.specs.Room.{metRoom}
+use Rattle.frame_rules.specs.declared.plan.Tests.{Tests}
+use Rattle.frame_rules.specs.Arrivals.{portRules}
+use Rattle.frame_rules.specs.Candidates.{destinationLookUp, chosenPort, numbersAt, bpduNumbers, anyDamaged}
+use Rattle.frame_rules.specs.Room.{metRoom}
 
 -- nothing is met past a reason
 unfoldable pub unlessDropped : Option Reason → Bool → Bool

@@ -16,12 +16,12 @@ use Rattle.addresses.specs.Search.{placeOf}
 use Rattle.settings.specs.Records.{vlanIs}
 use Rattle.settings.specs.SettingsOf.{settingsOf}
 use Rattle.settings.specs.declared.vlan.VlanSettings.{VlanSettings}
-use Rattle.frame_in.specs.declared.arrival.Arrival.{Arrival}
-use Rattle.frame_in.specs.declared.plan.Lesson.{Lesson}
-use Rattle.frame_in.specs.declared.plan.Offer.{Offer}
-use Rattle.frame_in.specs.Stored.{storedHeader}
-use Rattle.frame_in.specs.Arrivals.{portRules, ArrivalIs}
-use Rattle.frame_in.specs.Candidates.{numbersOf, anyDamaged}
+use Rattle.frame_rules.specs.declared.arrival.Arrival.{Arrival}
+use Rattle.frame_rules.specs.declared.plan.Lesson.{Lesson}
+use Rattle.frame_rules.specs.declared.plan.Offer.{Offer}
+use Rattle.frame_rules.specs.Stored.{storedHeader}
+use Rattle.frame_rules.specs.Arrivals.{portRules, ArrivalIs}
+use Rattle.frame_rules.specs.Candidates.{numbersOf, anyDamaged}
 use Rattle.frame_in.specs.Carried.{lessonBy}
 use Rattle.frame_in.specs.Met.{metPort, metBpdu, metFrame, metEntry, metMember, metTests}
 use Rattle.frame_in.specs.Call.{isNothing, learnedIn}

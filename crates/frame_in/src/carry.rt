@@ -8,26 +8,29 @@ ghost use Rattle.rules.specs.Cells as rules;
 ghost use Rattle.layout.specs.Places.{linkWords, cellBytes};
 ghost use Rattle.cells.specs.Free.{roomFor};
 ghost use Rattle.addresses.specs.Search.{placeOf};
-ghost use Rattle.frame_in.specs.Room.{ringReady, ringsReady};
+ghost use Rattle.frame_rules.specs.Room.{ringReady, ringsReady};
 ghost use Rattle.frame_in.specs.Carried.{countTest, countedTests, countQueued, countedQueued, pushedIf, pushedTests, lessonBy, countIf, joinAt, joinBy, countedOutcome, countedBy, carriedOut, Ready};
-use crate::plan::Lesson;
-use crate::plan::Plan;
-use crate::plan::Tests;
-use crate::room::cells_of;
 use addresses::learn;
 use addresses::mark;
 use cells::bytes::store;
 use cells::free::Room;
 use cells::free::take_cells;
 use cells::stored::header_bytes;
+use frame_rules::plan::Lesson;
+use frame_rules::plan::Plan;
+use frame_rules::plan::Tests;
+use frame_rules::room::cells_of;
 use lent::Answer;
-use settings::counter::bump;
+use words::counter::bump;
 
 // A candidate that falls out is counted at its port.
 fn count_test(links: &mut [u32], port: usize, test: u32)
     requires { ⌜ (640 ≤ length (now links)) × (port < 5) ⌝ }
     ensures { λ _. ⌜ now (links .exit) ≡ countTest port test (now (links .entry)) ⌝ }
 {
+    if test < 17 {
+        return;
+    }
     if test == 17 {
         bump(links, port, 17);
         return;

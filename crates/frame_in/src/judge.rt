@@ -1,33 +1,33 @@
 // What happens to a frame, in document 01's order: nothing is written.
 ghost use Rattle.frame_in.specs.Judged.{Lent, Judged};
 ghost use Rattle.frame_in.specs.Stages.{PastEarly, Ordinary, AsBpdu, InEntry, Member, Tested};
-use crate::arrival::Arrival;
-use crate::arrival::absent;
-use crate::arrival::arrival_of;
-use crate::arrival::bit;
-use crate::arrival::default_header;
-use crate::arrival::early;
-use crate::arrival::is_bpdu;
-use crate::arrival::operation_byte;
-use crate::arrival::operation_header;
-use crate::candidates::any_candidate;
-use crate::candidates::any_damaged;
-use crate::candidates::bpdu_tests;
-use crate::candidates::chosen;
-use crate::candidates::destination_look_up;
-use crate::candidates::is_damaged;
-use crate::candidates::tests_of;
-use crate::plan::Lesson;
-use crate::plan::Offer;
-use crate::plan::Plan;
-use crate::plan::damaged_plan;
-use crate::plan::drop_plan;
-use crate::plan::lesson_plan;
-use crate::plan::no_lesson;
-use crate::room::offered_plan;
 use addresses::key_of;
 use addresses::look_up;
 use cells::stored::StoredHeader;
+use frame_rules::arrival::Arrival;
+use frame_rules::arrival::absent;
+use frame_rules::arrival::arrival_of;
+use frame_rules::arrival::bit;
+use frame_rules::arrival::default_header;
+use frame_rules::arrival::early;
+use frame_rules::arrival::is_bpdu;
+use frame_rules::arrival::operation_byte;
+use frame_rules::arrival::operation_header;
+use frame_rules::candidates::any_candidate;
+use frame_rules::candidates::any_damaged;
+use frame_rules::candidates::bpdu_tests;
+use frame_rules::candidates::chosen;
+use frame_rules::candidates::destination_look_up;
+use frame_rules::candidates::is_damaged;
+use frame_rules::candidates::tests_of;
+use frame_rules::plan::Lesson;
+use frame_rules::plan::Offer;
+use frame_rules::plan::Plan;
+use frame_rules::plan::damaged_plan;
+use frame_rules::plan::drop_plan;
+use frame_rules::plan::lesson_plan;
+use frame_rules::room::bpdu_plan;
+use frame_rules::room::offered_plan;
 use settings::port::port_in_range;
 use settings::port::read_port;
 use settings::table::Found;
@@ -35,10 +35,10 @@ use settings::table::find_vlan;
 use settings::vlan::VlanSettings;
 use settings::vlan::read_vlan;
 use settings::vlan::vlan_in_range;
-use settings::word::Word;
-use settings::word::bpdu_handling;
-use settings::word::queue_of;
 use tags::reading::address_at;
+use words::word::Word;
+use words::word::bpdu_handling;
+use words::word::queue_of;
 
 // 10 and 11; then 12 and 13.
 fn tested(
@@ -192,7 +192,7 @@ fn bpdu(links: &[u32], addresses: &[u64], n: usize, port: u32, frame: &[u8], def
         queue: 3,
         header,
     };
-    offered_plan(links, n, frame.len(), no_lesson(), offer)
+    bpdu_plan(links, n, frame.len(), offer)
 }
 
 // Past 3: a BPDU, or an ordinary frame.

@@ -1,8 +1,4 @@
 // The call frame-in: a frame that arrives at a port.
-mod plan; // what is decided before the first write
-mod arrival; // rules 1 to 9
-mod candidates; // each port's test
-mod room; // rules 12 and 13
 mod judge; // the rules in document 01's order
 mod carry; // the writes
 

@@ -13,7 +13,7 @@ pub fn bpdu(links: &mut [u32], on: u32) -> Answer
         if on > 1 {
             return refused(3);
         }
-        settings::word::set_bpdu_handling(links, on);
+        words::word::set_bpdu_handling(links, on);
         return done(0, 0);
     }
     refused(1)

@@ -17,7 +17,7 @@ pub fn counter(links: &[u32], port: u32, number: u32) -> Answer
         if number > 20 {
             return refused(3);
         }
-        let value = settings::counter::counter(links, port as usize, number as usize);
+        let value = words::counter::counter(links, port as usize, number as usize);
         return done(value, 0);
     }
     refused(1)

@@ -17,7 +17,7 @@ pub fn map(links: &mut [u32], pcp: u32, queue: u32) -> Answer
         if queue > 3 {
             return refused(3);
         }
-        settings::word::set_queue(links, pcp as usize, queue);
+        words::word::set_queue(links, pcp as usize, queue);
         return done(0, 0);
     }
     refused(1)
@@ -36,7 +36,7 @@ pub fn queue_switch(links: &mut [u32], port: u32, queue: u32, on: u32) -> Answer
         if on > 1 {
             return refused(3);
         }
-        settings::word::set_queue_switch(links, port as usize, queue as usize, on);
+        words::word::set_queue_switch(links, port as usize, queue as usize, on);
         return done(0, 0);
     }
     refused(1)

@@ -2,7 +2,6 @@ pub mod Records
 pub mod RecordRuns
 pub mod RecordLaws
 pub mod RangeLaws
-pub mod Words
 pub mod Counters
 pub mod Table
 pub mod TableSteps

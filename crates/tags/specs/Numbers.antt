@@ -1,13 +1,11 @@
--- What the code's numbers and structs stand for: a header of 16 bits, a tag of 32, a stack of tags by value, an operation.
+-- What the code's numbers and structs stand for: a header of 16 bits, a tag of 32, a stack of tags by value.
 -- Assumes nothing: these are definitions.
 use Prim.Native.Nat.{ℕ, zero, suc, _/_, _%_}
 use mathlib.Core.List.{List, [], _∷_}
 use lib.ListN.{getD, drop}
 use Rattle.rules.specs.Tags.{Header, Tag, headerOf}
-use Rattle.rules.specs.Operations.{Operation, Origin}
-use Rattle.rules.specs.Arguments.{kindOf, typeOf, sourceOf}
+use Rattle.rules.specs.Operations.{Origin}
 use Rattle.tags.specs.declared.stack.Stack.{Stack}
-use Rattle.tags.specs.declared.leaving.Operation as Code
 
 -- a tag as its four bytes stand in a frame: the type, then the header, PCP · 8192 + DEI · 4096 + VID
 unfoldable pub tagIs : ℕ → Tag
@@ -30,16 +28,6 @@ stackIs s = firstTags (s .count) (s .first ∷ s .second ∷ s .third ∷ s .fou
 -- a stack of at most two tags
 abbrev pub fewTags : ℕ → ℕ → ℕ → Stack
 fewTags count first second = record { count = count; first = first; second = second; third = 0; fourth = 0 }
-
-unfoldable pub operationIs : Code.Operation → Operation
-operationIs o =
-    record {
-      kind = kindOf (o .kind);
-      type = typeOf (o .«tag_type»);
-      vidFrom = sourceOf (o .«vid_source»);
-      pcpFrom = sourceOf (o .«pcp_source»);
-      header = headerOf (o .header);
-    }
 
 -- the decoded tags, and the arrival port's default header
 unfoldable pub originIs : Stack → ℕ → Origin

@@ -1,6 +1,4 @@
-// A frame's addresses and tags read, the VID and PCP that they give, and the tags with which a frame leaves.
+// A frame's addresses and tags read, and the VID and PCP that they give.
 pub mod stack; // a stack of tags by value
 pub mod reading; // a frame's addresses and tags
 pub mod headers; // the VID and PCP of a frame
-pub mod leaving; // tag operations
-pub mod writing; // tags as bytes

@@ -22,7 +22,7 @@ use Rattle.queues.specs.declared.Waiting.{Waiting}
 use Rattle.queues.specs.declared.Waiting.the-variants as Ring
 use Rattle.settings.specs.SettingsOf.{portsOf, settingsOf}
 use Rattle.take_out.specs.Serving.{servedOr, servedBelow, served}
-use Rattle.settings.specs.Counters.{bumped}
+use Rattle.words.specs.Counters.{bumped}
 use Rattle.take_out.specs.Leaving.{canLeave, departed, left}
 use Rattle.take_out.specs.Frames.{storedAt, frameOf, leavingOf, leavingFrom, written, headerFits, canSend}
 use Rattle.take_out.specs.Take.{leavingAt, sentFrom, takenFrame, takenOrDamaged, damagedIn, takenFrom, takeRefusals, takeBy, takeCall}

@@ -10,10 +10,7 @@ use layout::CELL_COUNT;
 use lent::Answer;
 
 mod serving; // which queue is served
-mod leaving; // a copy leaves the memory
-mod frame; // the bytes that leave
 mod taking; // a frame is taken
-mod draining; // a port is drained
 
 // "A take at a port writes the oldest frame of its highest-numbered waiting queue; the rest of the buffer keeps its bytes."
 // Answers the length written, and the queue.
@@ -63,10 +60,10 @@ pub fn drain(links: &mut [u32], port: u32) -> Answer
         return lent::refused(2);
     }
     let n = links[CELL_COUNT] as usize;
-    if !draining::can_drain_all(links, n, port) {
+    if !departures::draining::can_drain_all(links, n, port) {
         return lent::refused(10);
     }
-    let copies = draining::copies(links, n, port);
-    draining::drain_all(links, n, port);
+    let copies = departures::draining::copies(links, n, port);
+    departures::draining::drain_all(links, n, port);
     lent::done(copies, 0)
 }

@@ -8,14 +8,14 @@ ghost use Rattle.layout.specs.Places.{linkWords, cellBytes, ringOfQueue};
 ghost use Rattle.queues.specs.Rings.{oldestPlace, countOf};
 ghost use Rattle.take_out.specs.Frames.{storedAt, canSend};
 ghost use Rattle.take_out.specs.Take as spec;
-use crate::frame::header_fits;
-use crate::frame::write_leaving;
-use crate::leaving::SENT;
-use crate::leaving::can_leave;
-use crate::leaving::depart;
-use crate::leaving::leave;
 use cells::stored::StoredHeader;
 use cells::stored::read_header;
+use departures::leaving::SENT;
+use departures::leaving::can_leave;
+use departures::leaving::depart;
+use departures::leaving::leave;
+use leaving_bytes::header_fits;
+use leaving_bytes::write_leaving;
 use lent::Answer;
 
 // The bytes of the frame that is served, then its words, its ring and its counter.

@@ -72,7 +72,8 @@ add-load-cells-2 c = search needs
 load-cells-requires : tie.Need-load-cells-requires
 load-cells-requires c κs =
     let s = c .before .before .before .before .before .before .before .before .before .before .before in
-    (omega (arith, c .before .before .before .before .copy .kept .0, c .before .before .before .before .before .before .before .least .ensures), rest-below (s .args .links .now) (s .args .k) (s .args .first) (omega arith) (s .args .n) (s .pre .1 .1))
+    let least = c .before .before .before .before .before .before .before .least .ensures in
+    (omega (arith, c .before .before .before .before .copy .kept .0, least), (omega (arith, least), rest-below (s .args .links .now) (s .args .k) (s .args .first) (omega arith) (s .args .n) (s .pre .1 .1)))
 
 same-length : tie.Need-same-length
 same-length c = search needs

@@ -48,7 +48,8 @@ sub-store-cells c = search needs
 store-cells-requires : tie.Need-store-cells-requires
 store-cells-requires c κs =
     let s = c .before .before .before .before .before .before .before .before .before .before .before .before .before .before .before .before in
-    (omega (arith, c .before .before .before .before .copy2 .kept .0, c .before .before .before .before .before .before .before .before .before .before .copy .kept .0, c .before .before .before .before .before .before .before .least .ensures), rest-below (s .args .links .now) (s .args .k) (s .args .first) (omega arith) (s .args .n) (s .pre .1))
+    let least = c .before .before .before .before .before .before .before .least .ensures in
+    (omega (arith, c .before .before .before .before .copy2 .kept .0, c .before .before .before .before .before .before .before .before .before .before .copy .kept .0), (omega (arith, least), rest-below (s .args .links .now) (s .args .k) (s .args .first) (omega arith) (s .args .n) (s .pre .1)))
 
 same-length : tie.Need-same-length
 same-length c = search needs

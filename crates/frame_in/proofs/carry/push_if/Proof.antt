@@ -1,7 +1,7 @@
 -- `frame_in::carry::push_if` meets its contract. Assumes nothing.
 use mathlib.Core.Path.{_∙_}
 use Rattle.frame_in.proofs.Carries.{push-left, push-not-left}
-use Rattle.frame_in.proofs.RoomOutcomes.{can-push}
+use Rattle.frame_rules.proofs.RoomOutcomes.{can-push}
 use borrow.Author.Needs.{needs}
 use Rattle.frame_in.proofs.carry.push_if.Statement.{statement}
 use Rattle.frame_in.proofs.carry.push_if.Tie as tie

@@ -1,5 +1,6 @@
 -- `frame_in::judge::bpdu` meets its contract. Assumes nothing.
 use mathlib.Core.Path.{sym, _∙_}
+use Rattle.frame_rules.proofs.RoomOutcomes.{of-bpdu}
 use Rattle.frame_in.proofs.Steps.{bpdu-damaged, bpdu-offered}
 use borrow.Author.Needs.{needs}
 use Rattle.frame_in.proofs.judge.bpdu.Statement.{statement}
@@ -20,14 +21,14 @@ returns c = rw (c .damaged-plan .ensures) (bpdu-damaged _ _ _ _ _ _ (c .before .
 cast-t12 : tie.Need-cast-t12
 cast-t12 c = search needs
 
-no-lesson-requires : tie.Need-no-lesson-requires
-no-lesson-requires c κs = search needs
-
-offered-plan-requires : tie.Need-offered-plan-requires
-offered-plan-requires c κs = search needs
+bpdu-plan-requires : tie.Need-bpdu-plan-requires
+bpdu-plan-requires c κs = (search needs, search needs, of-bpdu _ _ _ (c .before .before .bpdu-tests .ensures))
 
 returns-2 : tie.Need-returns-2
-returns-2 c = rw (c .offered-plan .ensures, c .before .no-lesson .ensures) (bpdu-offered _ _ _ _ _ _ (c .before .before .before .before .before .before .before .before .pre) _ (c .before .before .before .before .bpdu-tests .ensures) (sym (c .before .before .before .any-damaged .ensures) ∙ c .before .before .if1 .left))
+returns-2 c =
+    let at-test = c .before in
+    let at-tests = at-test .before .before in
+    rw (c .bpdu-plan .ensures) (bpdu-offered _ _ _ _ _ _ (at-tests .before .before .before .before .pre) _ (at-tests .bpdu-tests .ensures) (sym (at-test .before .any-damaged .ensures) ∙ at-test .if1 .left))
 
 pub bpdu-spec : {M : Type 1} → statement M
 bpdu-spec =
@@ -38,6 +39,5 @@ bpdu-spec =
     damaged-plan-requires
     returns
     cast-t12
-    no-lesson-requires
-    offered-plan-requires
+    bpdu-plan-requires
     returns-2)

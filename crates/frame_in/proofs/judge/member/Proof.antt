@@ -3,7 +3,7 @@ use mathlib.Core.Path.{sym, _∙_}
 use native.Mathlib.Omega.{arith}
 use Rattle.frame_in.proofs.LookedUp.{gid-small, operation-good, destination-damaged, source-damaged, queue-damaged, as-tested}
 use Rattle.frame_in.proofs.Lessons.{address-below}
-use Rattle.frame_in.proofs.CandidateTests.{within-is}
+use Rattle.frame_rules.proofs.CandidateTests.{within-is}
 use borrow.Author.Needs.{needs}
 use Rattle.frame_in.proofs.judge.member.Statement.{statement}
 use Rattle.frame_in.proofs.judge.member.Tie as tie

@@ -3,7 +3,7 @@ use mathlib.Core.Path.{sym, _∙_}
 use native.Mathlib.Omega.{arith}
 use Rattle.rules.specs.Refusals.{refusalNumber, portLines}
 use Rattle.setting_calls.specs.Calls.{portRefusals, portCall}
-use Rattle.setting_calls.proofs.Ends.{fixed-part, too-short, long-enough, port-above, port-good, out-of-range, in-range, finished}
+use Rattle.lent.proofs.Ends.{fixed-part, too-short, long-enough, port-above, port-good, out-of-range, in-range, finished}
 use borrow.Author.Needs.{needs}
 use Rattle.setting_calls.proofs.port.store_port.Statement.{statement}
 use Rattle.setting_calls.proofs.port.store_port.Tie as tie

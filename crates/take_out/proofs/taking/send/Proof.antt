@@ -7,7 +7,7 @@ use Rattle.layout.specs.Places.{ringOfQueue}
 use Rattle.take_out.specs.Frames.{storedAt, headerFits}
 use Rattle.take_out.specs.Leaving.{canLeave}
 use Rattle.take_out.proofs.Takes.{can-send, sent-is}
-use Rattle.take_out.proofs.Copies.{Leaves, leaves, departed-ring}
+use Rattle.departures.proofs.Copies.{Leaves, leaves, departed-ring}
 use Rattle.take_out.proofs.taking.send.Statement.{statement}
 use Rattle.take_out.proofs.taking.send.Tie as tie
 

@@ -1,0 +1,23 @@
+-- `address_numbers::static_number` meets its contract. Assumes nothing.
+use mathlib.Core.Path.{refl}
+use Rattle.rules.specs.Addresses.{staticEntry}
+use Rattle.address_numbers.specs.Numbers.{bit, numberOf}
+use borrow.Author.Needs.{needs}
+use Rattle.address_numbers.proofs.static_number.Statement.{statement}
+use Rattle.address_numbers.proofs.static_number.Tie as tie
+
+mul-result : tie.Need-mul-result
+mul-result c = search needs
+
+add-result : tie.Need-add-result
+add-result c = search needs
+
+add-result-2 : tie.Need-add-result-2
+add-result-2 c = search needs
+
+returns : tie.Need-returns
+unfolding numberOf bit staticEntry
+returns c = refl
+
+pub static-number-spec : {M : Type 1} → statement M
+static-number-spec = tie.close (tie.spec mul-result add-result add-result-2 returns)

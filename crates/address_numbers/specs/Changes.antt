@@ -1,0 +1,17 @@
+-- The number that stands at a place once its entry is marked, learned, made static or aged. Assumes nothing: these are definitions.
+use Prim.Native.Nat.{ℕ, _+_, _-_, _^_}
+use Rattle.rules.specs.Choice.{if_then_else_}
+use Rattle.rules.specs.Addresses.{learnedEntry, staticEntry}
+use Rattle.address_numbers.specs.Numbers.{usedIn, staticIn, numberOf}
+
+unfoldable pub markedNumber : ℕ → ℕ
+markedNumber n = if usedIn n then n else (n + 2 ^ 55)
+
+abbrev pub learnedNumber : ℕ → ℕ → ℕ
+learnedNumber k port = numberOf (learnedEntry k port)
+
+abbrev pub staticNumber : ℕ → ℕ → ℕ
+staticNumber k port = numberOf (staticEntry k port)
+
+unfoldable pub olderNumber : ℕ → ℕ
+olderNumber n = if staticIn n then n else (if usedIn n then (n - 2 ^ 55) else 0)

@@ -1,0 +1,34 @@
+-- `departures::draining::drain_all` meets its contract. Assumes nothing.
+use borrow.Author.Needs.{needs}
+use Rattle.departures.proofs.Drains.{all-is}
+use Rattle.departures.proofs.draining.drain_all.Statement.{statement}
+use Rattle.departures.proofs.draining.drain_all.Tie as tie
+
+drain-queue-requires : tie.Need-drain-queue-requires
+drain-queue-requires c κs = search needs
+
+drain-queue-requires-2 : tie.Need-drain-queue-requires-2
+drain-queue-requires-2 c κs = search needs
+
+drain-queue-requires-3 : tie.Need-drain-queue-requires-3
+drain-queue-requires-3 c κs = search needs
+
+drain-queue-requires-4 : tie.Need-drain-queue-requires-4
+drain-queue-requires-4 c κs = search needs
+
+same-length : tie.Need-same-length
+same-length c = search needs
+
+returns : tie.Need-returns
+returns c = let s = c .before .before .before .before .before .before .before .before .before .before .before .before .before .before .before .before .before in all-is (s .args .n) (s .args .port) (s .args .links .now) _ _ _ _ (c .before .before .before .before .before .before .before .before .before .before .before .before .before .before .drain-queue .ensures) (c .before .before .before .before .before .before .before .before .before .before .drain-queue2 .ensures) (c .before .before .before .before .before .before .drain-queue3 .ensures) (c .before .before .drain-queue4 .ensures)
+
+pub drain-all-spec : {M : Type 1} → statement M
+drain-all-spec =
+    tie.close
+    (tie.spec
+    drain-queue-requires
+    drain-queue-requires-2
+    drain-queue-requires-3
+    drain-queue-requires-4
+    same-length
+    returns)

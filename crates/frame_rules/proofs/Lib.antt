@@ -1,0 +1,5 @@
+pub mod States
+pub mod Arrivals
+pub mod CandidateTests
+pub mod RoomOutcomes
+pub mod TestNumbers

@@ -1,0 +1,17 @@
+-- `frame_rules::candidates::chosen` meets its contract. Assumes nothing.
+use Rattle.frame_rules.proofs.CandidateTests.{chosen-every, chosen-found}
+use borrow.Author.Needs.{needs}
+use Rattle.frame_rules.proofs.candidates.chosen.Statement.{statement}
+use Rattle.frame_rules.proofs.candidates.chosen.Tie as tie
+
+enum-known-found : tie.Need-enum-known-found
+enum-known-found c = search needs
+
+returns : tie.Need-returns
+returns c = chosen-every _ (c .match .keys2)
+
+returns-2 : tie.Need-returns-2
+returns-2 c = chosen-found (c .before .found .given .1)
+
+pub chosen-spec : {M : Type 1} → statement M
+chosen-spec = tie.close (tie.spec enum-known-found returns returns-2)

@@ -1,0 +1,127 @@
+// What a frame-in has decided before its first write, by value.
+ghost use mathlib.Core.Path.{_≡_};
+ghost use Rattle.frame_rules.specs.Plans.{noLesson, noTests, noHeader, damagedPlan, dropPlan, lessonPlan, offerPlan};
+use addresses::LookUp;
+use cells::stored::StoredHeader;
+
+// Whether the destination was looked up and the source is learned, and what the look-ups found.
+pub struct Lesson {
+    pub learns: bool,
+    pub destination: LookUp,
+    pub source: LookUp,
+    pub key: u64,
+}
+
+// A port's test by number: 0 it passes, 1 it is no candidate, 2 damage was met, 17 and 18 the counter of the test that takes it out.
+pub struct Tests {
+    pub zero: u32,
+    pub one: u32,
+    pub two: u32,
+    pub three: u32,
+    pub four: u32,
+}
+
+// Reason 0: the frame is queued at the ports left.
+pub struct Plan {
+    pub damaged: bool,
+    pub reason: u32,
+    pub lesson: Lesson,
+    pub tests: Tests,
+    pub left: u32,
+    pub queue: u32,
+    pub header: StoredHeader,
+}
+
+// What is queued where no reason holds: the ports' tests, the queue and what is stored with the frame.
+pub struct Offer {
+    pub tests: Tests,
+    pub queue: u32,
+    pub header: StoredHeader,
+}
+
+pub fn no_lesson() -> Lesson
+    ensures { λ r. ⌜ r ≡ noLesson ⌝ }
+{
+    Lesson {
+        learns: false,
+        destination: LookUp::Full,
+        source: LookUp::Full,
+        key: 0,
+    }
+}
+
+fn no_tests() -> Tests
+    ensures { λ r. ⌜ r ≡ noTests ⌝ }
+{
+    Tests {
+        zero: 1,
+        one: 1,
+        two: 1,
+        three: 1,
+        four: 1,
+    }
+}
+
+fn no_header() -> StoredHeader
+    ensures { λ r. ⌜ r ≡ noHeader ⌝ }
+{
+    StoredHeader {
+        length: 0,
+        default: 0,
+        operation: 0,
+        exempt: 0,
+        header: 0,
+    }
+}
+
+pub fn damaged_plan() -> Plan
+    ensures { λ r. ⌜ r ≡ damagedPlan ⌝ }
+{
+    Plan {
+        damaged: true,
+        reason: 0,
+        lesson: no_lesson(),
+        tests: no_tests(),
+        left: 0,
+        queue: 0,
+        header: no_header(),
+    }
+}
+
+// Dropped before the candidates are tested.
+pub fn lesson_plan(reason: u32, lesson: Lesson) -> Plan
+    ensures { λ r. ⌜ r ≡ lessonPlan reason lesson ⌝ }
+{
+    Plan {
+        damaged: false,
+        reason,
+        lesson,
+        tests: no_tests(),
+        left: 0,
+        queue: 0,
+        header: no_header(),
+    }
+}
+
+// Dropped before the look-up.
+pub fn drop_plan(reason: u32) -> Plan
+    ensures { λ r. ⌜ r ≡ dropPlan reason ⌝ }
+{
+    lesson_plan(reason, no_lesson())
+}
+
+pub fn offer_plan(reason: u32, lesson: Lesson, offer: Offer, left: u32) -> Plan
+    ensures { λ r. ⌜ r ≡ offerPlan reason lesson offer left ⌝ }
+{
+    let tests = offer.tests;
+    let header = offer.header;
+    Plan {
+        damaged: false,
+        reason,
+        lesson,
+        tests,
+        left,
+        queue: offer.queue,
+        header,
+    }
+}

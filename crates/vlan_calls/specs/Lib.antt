@@ -1,0 +1,2 @@
+pub mod Vlans
+pub mod Placed
