@@ -37,7 +37,8 @@ placeOf (Vacant place) = place
 placeOf Full = 0
 placeOf Damaged = 0
 
--- a removal is refused with 9 where nothing matched, a static call with 8 where all is full, every call with 10 where memory is damaged
+-- a removal is refused with 9 where nothing matched and no damage was met, a static call with 8 where all is full, every call with 10
+-- where memory is damaged
 abbrev pub matched : LookUp → Bool
 matched (Found port place) = true
 matched (Vacant place) = false

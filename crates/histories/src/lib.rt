@@ -5,7 +5,9 @@ use settings::port::PortSettings;
 use settings::vlan::VlanSettings;
 ghost use mathlib.Core.Path.{_≡_};
 ghost use mathlib.Core.List.{[]};
+ghost use Prim.Native.Nat.{_<_};
 ghost use lib.ListN.{length};
+ghost use Rattle.rules.specs.Tags.{Bytes};
 ghost use Rattle.fresh_call.specs.Calls.{freshCall};
 ghost use Rattle.histories.specs.Runs.{onAll, run};
 ghost use Rattle.histories.specs.Asked.{memories, cameTo, asked};
@@ -96,5 +98,20 @@ pub fn perform(
         ),
         Call::Drain(port) => gufhrandi::gufhrandi_drain(links, port),
         Call::Bpdu(on) => gufhrandi::gufhrandi_bpdu(links, on),
+    }
+}
+
+fn is_byte(value: u8)
+    ensures { λ _. ⌜ value < 256 ⌝ }
+{}
+
+// What a driver hands over as a frame is of bytes, whatever it is: so each call of `perform` is one that a history may hold.
+pub fn is_bytes(frame: &[u8])
+    ensures { λ _. ⌜ Bytes (now (frame .entry)) ⌝ }
+{
+    let mut i = 0;
+    while i < frame.len() {
+        is_byte(frame[i]);
+        i += 1;
     }
 }
