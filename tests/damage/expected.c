@@ -1,4 +1,4 @@
-/* The refusals by docs/LAYOUT.md and document 01's table, written from those papers and not from the code. */
+/* The refusals by docs/LAYOUT.md and the table of docs/RULES.md, written from those papers and not from the code. */
 #include "expected.h"
 
 enum { CELL_WORDS = 24, FIXED_WORDS = 640, DAMAGED = 10 };

@@ -1,4 +1,4 @@
-/* What the layout paper and document 01's refusal table say of a call, computed from the memory as it was. */
+/* What the layout paper and the table of refusals (docs/RULES.md) say of a call, computed from the memory as it was. */
 #ifndef EXPECTED_H
 #define EXPECTED_H
 

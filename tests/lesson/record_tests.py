@@ -1,4 +1,4 @@
-"""The records of the statements, byte for byte, and document 01's example."""
+"""The records of the statements, byte for byte, and the rules' worked example."""
 
 import subprocess
 import unittest
@@ -54,7 +54,7 @@ RECORDS = {
     "capitals and spaces": ("  TAKE   At 1 ", "0300 0200 01"),
 }
 
-# Document 01's counters, from 0.
+# The rules' counters, from 0.
 COUNTERS = (
     "offered",
     "shorter than 60",
@@ -79,7 +79,7 @@ COUNTERS = (
     "drained",
 )
 
-EXAMPLE = """lesson: Document 01's example
+EXAMPLE = """lesson: The rules' worked example
 address A is 02:00:00:00:00:01
 address B is 02:00:00:00:00:02
 frame at 0: from A to B, 60 bytes

@@ -7,7 +7,7 @@ from front_end.answers import Done, Refused
 
 FRAME = "frame at 0: from 02:00:00:00:00:01 to 02:00:00:00:00:02"
 
-# Document 01's table: the number, its words, and lines whose last is dropped for it.
+# The rules' table: the number, its words, and lines whose last is dropped for it.
 REASONS = {
     1: ("shorter than 60", [f"{FRAME}, 59 bytes"]),
     2: ("longer than 4,083", [f"{FRAME}, 4084 bytes"]),

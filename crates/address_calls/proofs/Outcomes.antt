@@ -10,7 +10,8 @@ use borrow.Author.Tests.{lt-ltb, le-ltb, leb-true, ltb-true}
 use Rattle.rules.proofs.Choice.{and-left, and-right}
 use Rattle.rules.specs.Lines.{first}
 use Rattle.rules.specs.Refusals.{memoryLength, portAboveFour, outOfRange, groupAddress, placesInUse, addressNotThere, memoryDamaged, ageLines, staticLines, removeLines}
-use Rattle.rules.specs.Arguments.{mostGid, isAddress}
+use Rattle.rules.specs.Numbers.{mostGid}
+use Rattle.rules.specs.Arguments.{isAddress}
 use Rattle.rules.specs.Tags.{isGroup}
 use Rattle.rules.specs.Addresses.{key}
 use Rattle.lent.specs.declared.Answer.{Answer}

@@ -26,7 +26,7 @@ ageCall addresses = orRefused (first (ageRefusals addresses)) addresses (doneWit
 unfoldable pub staticRefusals : List ℕ → ℕ → ℕ → ℕ → Lines
 staticRefusals addresses gid port address =
     lengthLine (addressesFit addresses)
-    ∷ staticLines (full (lookUp addresses (key gid address))) gid port address
+    ∷ staticLines (full (lookUp addresses (key gid address))) (record { gid = gid; port = port; address = address })
     ++ (damageLine (damaged (lookUp addresses (key gid address))) ∷ [])
 
 unfoldable pub staticCall : List ℕ → ℕ → ℕ → ℕ → Answer × List ℕ
@@ -41,7 +41,7 @@ there found = damaged found || matched found
 unfoldable pub removeRefusals : List ℕ → ℕ → ℕ → Lines
 removeRefusals addresses gid address =
     lengthLine (addressesFit addresses)
-    ∷ removeLines (there (lookUp addresses (key gid address))) gid address
+    ∷ removeLines (there (lookUp addresses (key gid address))) (record { gid = gid; address = address })
     ++ (damageLine (damaged (lookUp addresses (key gid address))) ∷ [])
 
 unfoldable pub removeCall : List ℕ → ℕ → ℕ → Answer × List ℕ

@@ -20,8 +20,8 @@ portIn n = n / 2 ^ 52 % 8
 abbrev pub bodyIn : ℕ → ℕ
 bodyIn n = n / 2 ^ 57 * 2 ^ 57 + n % 2 ^ 52
 
-abbrev pub usedIn : ℕ → Bool
-usedIn n = eqb (n / 2 ^ 55 % 2) 1
+abbrev pub markedIn : ℕ → Bool
+markedIn n = eqb (n / 2 ^ 55 % 2) 1
 
 abbrev pub staticIn : ℕ → Bool
 staticIn n = eqb (n / 2 ^ 56 % 2) 1
@@ -33,7 +33,7 @@ inRange n = eqb n 0 || (eqb (n / 2 ^ 57) 1 && leb (portIn n) 4)
 -- ---- reading
 
 unfoldable pub entryIn : ℕ → Entry
-entryIn n = record { key = keyIn n; port = portIn n; used = usedIn n; static = staticIn n }
+entryIn n = record { key = keyIn n; port = portIn n; marked = markedIn n; static = staticIn n }
 
 -- "a place holds 0 when it is empty"
 unfoldable pub entryOf : ℕ → Option Entry
@@ -53,4 +53,4 @@ bit true = 1
 bit false = 0
 
 unfoldable pub numberOf : Entry → ℕ
-numberOf e = 2 ^ 57 + bit (e .static) * 2 ^ 56 + bit (e .used) * 2 ^ 55 + e .port * 2 ^ 52 + e .key
+numberOf e = 2 ^ 57 + bit (e .static) * 2 ^ 56 + bit (e .marked) * 2 ^ 55 + e .port * 2 ^ 52 + e .key

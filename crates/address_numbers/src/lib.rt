@@ -9,7 +9,7 @@ ghost use Rattle.address_numbers.specs.Changes.{markedNumber, learnedNum
 const PORT: u64 = 4503599627370496;
 
 // 2^55: the mark.
-const USED: u64 = 36028797018963968;
+const MARKED: u64 = 36028797018963968;
 
 // 2^56.
 const STATIC: u64 = 72057594037927936;
@@ -18,7 +18,7 @@ const STATIC: u64 = 72057594037927936;
 pub const IN_USE: u64 = 144115188075855872;
 
 // An entry is made marked as used.
-const LEARNED_ENTRY: u64 = IN_USE + USED;
+const LEARNED_ENTRY: u64 = IN_USE + MARKED;
 
 const STATIC_ENTRY: u64 = LEARNED_ENTRY + STATIC;
 
@@ -50,10 +50,10 @@ pub fn is_static(number: u64) -> bool
 pub fn marked_number(number: u64) -> u64
     ensures { λ r. ⌜ r ≡ markedNumber number ⌝ }
 {
-    if number / USED % 2 == 1 {
+    if number / MARKED % 2 == 1 {
         return number;
     }
-    number + USED
+    number + MARKED
 }
 
 pub fn learned_number(key: u64, port: u32) -> u64
@@ -77,7 +77,7 @@ pub fn goes(number: u64) -> u32
     if number == 0 {
         return 0;
     }
-    if is_static(number) | (number / USED % 2 == 1) {
+    if is_static(number) | (number / MARKED % 2 == 1) {
         return 0;
     }
     1
@@ -89,8 +89,8 @@ pub fn older_number(number: u64) -> u64
     if is_static(number) {
         return number;
     }
-    if number / USED % 2 == 1 {
-        return number - USED;
+    if number / MARKED % 2 == 1 {
+        return number - MARKED;
     }
     0
 }

@@ -11,14 +11,15 @@ use lib.ListN.{length, getD, set, replicate}
 use lib.Seq.{getD-set-same, getD-set-other}
 use borrow.Author.Tests.{eqb-true, eqb-false, eq-eqb, ne-eqb, leb-true, le-leb, lt-leb}
 use Rattle.rules.specs.Choice.{changed}
-use Rattle.rules.specs.Addresses.{Entry, put, marked, older}
+use Rattle.rules.specs.Addresses.{Entry, withMark, older}
+use Rattle.rules.specs.Tables.{put}
 use Rattle.rules.proofs.Choice.{on, and-left, and-right}
-use Rattle.addresses.specs.Numbers.{keyIn, portIn, usedIn, staticIn, inRange, entryIn, entryOf, tableOf, bit, numberOf}
+use Rattle.addresses.specs.Numbers.{keyIn, portIn, markedIn, staticIn, inRange, entryIn, entryOf, tableOf, bit, numberOf}
 use Rattle.addresses.specs.Writes.{markedNumber, olderNumber}
 use Rattle.addresses.specs.Theorems.{Fits}
 
-entry-same : {a b : Entry} → a .key ≡ b .key → a .port ≡ b .port → a .used ≡ b .used → a .static ≡ b .static → a ≡ b
-entry-same k p u s = λ i. record { key = k i; port = p i; used = u i; static = s i }
+entry-same : {a b : Entry} → a .key ≡ b .key → a .port ≡ b .port → a .marked ≡ b .marked → a .static ≡ b .static → a ≡ b
+entry-same k p u s = λ i. record { key = k i; port = p i; marked = u i; static = s i }
 
 -- ---- what a number holds
 
@@ -125,9 +126,9 @@ module _ (e : Entry) (f : Fits e) where
   written : entryIn (numberOf e) ≡ e
   unfolding entryIn numberOf
   written =
-      entry-same (omega (arith, bit-below (e .used), bit-below (e .static))) (omega (arith, bit-below (e .used), bit-below (e .static)))
-      (bit-on (e .used) (numberOf e / 2 ^ 55 % 2) (omega (arith, bit-below (e .used), bit-below (e .static))))
-      (bit-on (e .static) (numberOf e / 2 ^ 56 % 2) (omega (arith, bit-below (e .used), bit-below (e .static))))
+      entry-same (omega (arith, bit-below (e .marked), bit-below (e .static))) (omega (arith, bit-below (e .marked), bit-below (e .static)))
+      (bit-on (e .marked) (numberOf e / 2 ^ 55 % 2) (omega (arith, bit-below (e .marked), bit-below (e .static))))
+      (bit-on (e .static) (numberOf e / 2 ^ 56 % 2) (omega (arith, bit-below (e .marked), bit-below (e .static))))
 
   pub read-written : entryOf (numberOf e) ≡ some e
   read-written = entry-of (numberOf e) not-empty ∙ ap some written
@@ -135,7 +136,7 @@ module _ (e : Entry) (f : Fits e) where
   pub written-in-range : inRange (numberOf e) ≡ true
   unfolding numberOf
   written-in-range =
-      in-range (numberOf e) (omega (arith, bit-below (e .used), bit-below (e .static))) (omega (arith, bit-below (e .used), bit-below (e .static)))
+      in-range (numberOf e) (omega (arith, bit-below (e .marked), bit-below (e .static))) (omega (arith, bit-below (e .marked), bit-below (e .static)))
 
 pub read-fits : (n : ℕ) (e : Entry) → inRange n ≡ true → entryOf n ≡ some e → Fits e
 unfolding entryIn
@@ -172,13 +173,13 @@ module _ (n : ℕ) (z : eqb n 0 ≡ false) where
 
   pub marked-alike : Alike (markedNumber n) n
   unfolding markedNumber
-  marked-alike = on (usedIn n)
+  marked-alike = on (markedIn n)
       (λ u. rw u (record { range = refl; vacancy = refl; key = refl; port = refl }))
       (λ u. rw u (marked-off (bit-off (n / 2 ^ 55) u)))
 
-  pub marked-entry : entryIn (markedNumber n) ≡ marked (entryIn n)
-  unfolding markedNumber marked entryIn
-  marked-entry = on (usedIn n)
+  pub marked-entry : entryIn (markedNumber n) ≡ withMark true (entryIn n)
+  unfolding markedNumber withMark entryIn
+  marked-entry = on (markedIn n)
       (λ u. rw u (entry-same refl refl u refl))
       (λ u. rw u (entry-same (omega arith) (below-mark n) (eq-eqb ((n + 2 ^ 55) / 2 ^ 55 % 2) 1 (omega (arith, bit-off (n / 2 ^ 55) u)))
       (ap (λ (q : ℕ). eqb (q % 2) 1) (above-mark n (bit-off (n / 2 ^ 55) u)))))
@@ -186,7 +187,7 @@ module _ (n : ℕ) (z : eqb n 0 ≡ false) where
 -- ---- ageing
 
 -- an entry in range whose mark is on, without its mark
-module _ (n : ℕ) (z : eqb n 0 ≡ false) (r : inRange n ≡ true) (u : usedIn n ≡ true) where
+module _ (n : ℕ) (z : eqb n 0 ≡ false) (r : inRange n ≡ true) (u : markedIn n ≡ true) where
   unmarked : n - 2 ^ 55 + 2 ^ 55 ≡ n
   unmarked = omega (arith, in-use n z r .0)
 
@@ -207,7 +208,7 @@ module _ (n : ℕ) (z : eqb n 0 ≡ false) (r : inRange n ≡ true) (u : usedIn 
   unmarked-in-range : inRange (n - 2 ^ 55) ≡ true
   unmarked-in-range = in-range (n - 2 ^ 55) (unmarked-use ∙ in-use n z r .0) (rw unmarked-port (in-use n z r .1))
 
-  unmarked-entry : staticIn n ≡ false → entryOf (n - 2 ^ 55) ≡ some (record { key = keyIn n; port = portIn n; used = false; static = false })
+  unmarked-entry : staticIn n ≡ false → entryOf (n - 2 ^ 55) ≡ some (record { key = keyIn n; port = portIn n; marked = false; static = false })
   unfolding entryIn
   unmarked-entry s =
       entry-of (n - 2 ^ 55) (ne-eqb (n - 2 ^ 55) 0 (λ e. omega (arith, in-use n z r .0)))
@@ -219,11 +220,11 @@ module _ (n : ℕ) where
   unfolding olderNumber
   number-stays s = rw s
 
-  number-unmarked : staticIn n ≡ false → usedIn n ≡ true → olderNumber n ≡ n - 2 ^ 55
+  number-unmarked : staticIn n ≡ false → markedIn n ≡ true → olderNumber n ≡ n - 2 ^ 55
   unfolding olderNumber
   number-unmarked s u = rw (s, u)
 
-  number-goes : staticIn n ≡ false → usedIn n ≡ false → olderNumber n ≡ 0
+  number-goes : staticIn n ≡ false → markedIn n ≡ false → olderNumber n ≡ 0
   unfolding olderNumber
   number-goes s u = rw (s, u)
 
@@ -232,11 +233,11 @@ module _ (n : ℕ) where
     unfolding older entryOf entryIn
     entry-stays s = rw (z, s)
 
-    entry-unmarked : staticIn n ≡ false → usedIn n ≡ true → older (entryOf n) ≡ some (record { key = keyIn n; port = portIn n; used = false; static = false })
-    unfolding older entryOf entryIn
+    entry-unmarked : staticIn n ≡ false → markedIn n ≡ true → older (entryOf n) ≡ some (record { key = keyIn n; port = portIn n; marked = false; static = false })
+    unfolding older withMark entryOf entryIn
     entry-unmarked s u = rw (z, s, u)
 
-    entry-goes : staticIn n ≡ false → usedIn n ≡ false → older (entryOf n) ≡ none
+    entry-goes : staticIn n ≡ false → markedIn n ≡ false → older (entryOf n) ≡ none
     unfolding older entryOf entryIn
     entry-goes s u = rw (z, s, u)
 
@@ -254,7 +255,7 @@ older-entry n r =
     (λ z. older-empty n (eqb-true n 0 z))
     (λ z. on (staticIn n)
     (λ s. ap entryOf (number-stays n s) ∙ sym (entry-stays n z s))
-    (λ s. on (usedIn n)
+    (λ s. on (markedIn n)
     (λ u. ap entryOf (number-unmarked n s u) ∙ unmarked-entry n z r u s ∙ sym (entry-unmarked n z s u))
     (λ u. ap entryOf (number-goes n s u) ∙ gone-empty ∙ sym (entry-goes n z s u))))
 
@@ -262,7 +263,7 @@ pub older-in-range : (n : ℕ) → inRange n ≡ true → inRange (olderNumber n
 older-in-range n r =
     on (staticIn n)
     (λ s. rw (number-stays n s) r)
-    (λ s. on (usedIn n)
+    (λ s. on (markedIn n)
     (λ u. rw (number-unmarked n s u) (unmarked-in-range n (ne-eqb n 0 (λ z. omega (arith, eqb-true (n / 2 ^ 55 % 2) 1 u))) r u))
     (λ u. rw (number-goes n s u) zero-in-range))
 

@@ -4,7 +4,8 @@ use mathlib.Core.Path.{_≡_, refl, _∙_}
 use mathlib.Core.Bool.{false}
 use mathlib.Core.List.{List}
 use lib.ListN.{length, getD, length-set, length-map}
-use Rattle.rules.specs.Addresses.{placeCount, find, mark}
+use Rattle.rules.specs.Numbers.{placeCount}
+use Rattle.rules.specs.Addresses.{lookUp as ruleLookUp, afterLookUp}
 use Rattle.rules.proofs.Choice.{on}
 use Rattle.addresses.specs.Numbers.{staticIn, tableOf}
 use Rattle.addresses.specs.Search.{lookUp, damaged}
@@ -61,7 +62,7 @@ module _ (memory : List ℕ) (long : length memory ≡ placeCount) (destination 
   steps : StepTheorems after (mark-long memory (lookUp memory destination) ∙ long) source (rw same whole₂)
   steps = step-theorems after (mark-long memory (lookUp memory destination) ∙ long) source (rw same whole₂)
 
-  marks : tableOf after ≡ mark (find (tableOf memory) destination) (tableOf memory)
+  marks : tableOf after ≡ afterLookUp (ruleLookUp (tableOf memory) false destination) (tableOf memory)
   marks = step-theorems memory long destination whole .mark-is
 
   pub frame-theorems : FrameTheorems memory long destination source whole whole₂ port

@@ -10,7 +10,9 @@ use lib.ListN.{length, getD, set}
 use lib.Seq.{getD-set-same, getD-set-other}
 use borrow.Author.Tests.{eqb-true, eqb-false, not-true}
 use Rattle.rules.specs.Choice.{Each, nobody, also}
-use Rattle.rules.specs.Addresses.{placeCount, Entry, Table, places, Found as Match, at, nowhere, meets, search, find, vacant, firstEmpty, emptyFor}
+use Rattle.rules.specs.Numbers.{placeCount}
+use Rattle.rules.specs.Addresses.{Entry, addressKeys, Table, places, find, emptyFor}
+use Rattle.rules.specs.Tables.{Found as Match, at, nowhere, meets, search, findIn, vacant, firstEmpty, emptyIn}
 use Rattle.rules.proofs.Choice.{on, onOption, and-left}
 use Rattle.rules.proofs.Places.{inside}
 use Rattle.addresses.specs.Numbers.{keyIn, portIn, inRange, entryOf, tableOf, allInRange}
@@ -26,12 +28,11 @@ use Rattle.addresses.proofs.Ranges.{all-at}
 
 -- ---- what the rules' search says
 
-pub record Hit (t : Table) (k i : ℕ) (e : Entry) : Type 0 where
+pub record Hit (t : Table) (i : ℕ) (e : Entry) : Type 0 where
   pub there : t i ≡ some e
-  pub keyed : e .key ≡ k
   pub inside : i < placeCount
 
-search-hit : (t : Table) (k : ℕ) (is : List ℕ) → Each (λ (i : ℕ). i < placeCount) is → (i : ℕ) (e : Entry) → search t k is ≡ at i e → Hit t k i e
+search-hit : (t : Table) (k : ℕ) (is : List ℕ) → Each (λ (i : ℕ). i < placeCount) is → (i : ℕ) (e : Entry) → search addressKeys t k is ≡ at i e → Hit t i e
 unfolding search meets
 search-hit t k [] nobody i e h = absurd (let z : _≡_ {A = ℕ} 0 1 = cc in omega arith)
 search-hit t k (p ∷ ps) (also b bs) i e h =
@@ -41,11 +42,11 @@ search-hit t k (p ∷ ps) (also b bs) i e h =
     (λ m. let c : at p d ≡ at i e = rw (a, m) at h in
     let x : p ≡ i = cc in
     let y : d ≡ e = cc in
-    record { there = rw (← x) (a ∙ ap some y); keyed = rw (← y) (eqb-true (d .key) k m); inside = rw (← x) b })
+    record { there = rw (← x) (a ∙ ap some y); inside = rw (← x) b })
     (λ m. search-hit t k ps bs i e (rw (a, m) at h)))
 
-pub find-hit : (t : Table) (k i : ℕ) (e : Entry) → find t k ≡ at i e → Hit t k i e
-unfolding find
+pub find-hit : (t : Table) (k i : ℕ) (e : Entry) → find t k ≡ at i e → Hit t i e
+unfolding find findIn
 find-hit t k i e h = search-hit t k (places k) (inside k) i e h
 
 first-inside : (t : Table) (is : List ℕ) → Each (λ (i : ℕ). i < placeCount) is → (i : ℕ) → firstEmpty t is ≡ some i → i < placeCount
@@ -57,7 +58,7 @@ first-inside t (p ∷ ps) (also b bs) i h =
     (λ d a. first-inside t ps bs i (rw a at h))
 
 pub empty-inside : (t : Table) (k i : ℕ) → emptyFor t k ≡ some i → i < placeCount
-unfolding emptyFor
+unfolding emptyFor emptyIn
 empty-inside t k i h = first-inside t (places k) (inside k) i h
 
 -- ---- damage
@@ -70,7 +71,7 @@ unmet-answer : (memory : List ℕ) (k : ℕ) → metInRange memory k (places k) 
 unfolding lookUp
 unmet-answer memory k m = rw m
 
-answered-whole : (m : Match) (o : Option ℕ) → damaged (answered m o) ≡ false
+answered-whole : (m : Match Entry) (o : Option ℕ) → damaged (answered m o) ≡ false
 unfolding answered
 answered-whole (at i e) o = refl
 answered-whole nowhere (some i) = refl
@@ -94,7 +95,7 @@ undamaged memory k h = rw (met-answer memory k (all-met memory k (places k) h)) 
 
 -- ---- places and ports
 
-answered-inside : (t : Table) (k : ℕ) (m : Match) (o : Option ℕ) → find t k ≡ m → emptyFor t k ≡ o → placeOf (answered m o) < placeCount
+answered-inside : (t : Table) (k : ℕ) (m : Match Entry) (o : Option ℕ) → find t k ≡ m → emptyFor t k ≡ o → placeOf (answered m o) < placeCount
 unfolding answered
 answered-inside t k (at i e) o f g = find-hit t k i e f .inside
 answered-inside t k nowhere (some i) f g = empty-inside t k i g
@@ -112,7 +113,7 @@ pub record FoundAt (memory : List ℕ) (k port place : ℕ) : Type 0 where
   pub finds : find (tableOf memory) k ≡ at place entry
   pub ported : entry .port ≡ port
 
-answered-found : (memory : List ℕ) (k port place : ℕ) (m : Match) (o : Option ℕ) → find (tableOf memory) k ≡ m → answered m o ≡ Found port place → FoundAt memory k port place
+answered-found : (memory : List ℕ) (k port place : ℕ) (m : Match Entry) (o : Option ℕ) → find (tableOf memory) k ≡ m → answered m o ≡ Found port place → FoundAt memory k port place
 unfolding answered
 answered-found memory k port place (at i e) o f h =
     let x : i ≡ place = cc in

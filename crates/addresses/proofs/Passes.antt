@@ -43,7 +43,7 @@ older-read memory place = List·getD-map olderNumber memory place 0
 pub goes-one : (o : Option Entry) → goes o ≤ 1
 unfolding goes
 goes-one none = omega arith
-goes-one (some e) = at-most (e .static || e .used)
+goes-one (some e) = at-most (e .static || e .marked)
   where
     at-most : (b : Bool) → (if b then 0 else 1) ≤ 1
     at-most true = omega arith

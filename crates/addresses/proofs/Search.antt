@@ -13,7 +13,9 @@ use lib.ListN.{length, getD, drop, List·getD-append}
 use lib.Seq.{drop-cons, getD-append-add, drop-length}
 use borrow.Author.Tests.{eq-eqb, ne-eqb, eqb-true, lt-ltb, le-ltb, not-true}
 use Rattle.rules.specs.Choice.{if_then_else_, Each, nobody, also}
-use Rattle.rules.specs.Addresses.{placeCount, at, run, places, bucketOf, meets, search, find, vacant, firstEmpty, emptyFor}
+use Rattle.rules.specs.Numbers.{placeCount}
+use Rattle.rules.specs.Tables.{meets, search, findIn, vacant, firstEmpty, emptyIn}
+use Rattle.rules.specs.Addresses.{run, places, bucketOf, addressKeys, find, emptyFor}
 use Rattle.rules.proofs.Choice.{on, and-left, and-right}
 use Rattle.rules.proofs.Places.{twenty, inside}
 use Rattle.addresses.specs.Numbers.{keyIn, portIn, bodyIn, inRange, entryIn, entryOf, tableOf}
@@ -127,7 +129,7 @@ orElse empty next = if eqb empty 4112 then next else (some empty)
 -- what is met, on a search from the given places on
 rest : List ℕ → ℕ → List ℕ → ℕ → LookUp
 rest memory k is empty =
-    if metInRange memory k is then (answered (search (tableOf memory) k is) (orElse empty (firstEmpty (tableOf memory) is))) else Damaged
+    if metInRange memory k is then (answered (search addressKeys (tableOf memory) k is) (orElse empty (firstEmpty (tableOf memory) is))) else Damaged
 
 or-else-empty : (empty i : ℕ) (next : Option ℕ) → i < 4112 → orElse (if eqb empty 4112 then i else empty) next ≡ orElse empty (some i)
 unfolding orElse
@@ -141,7 +143,7 @@ rest-empty : (memory : List ℕ) (k i : ℕ) (is : List ℕ) (empty : ℕ) → i
     → rest memory k (i ∷ is) empty ≡ rest memory k is (emptySoFar empty (getD memory i 0) i)
 unfolding rest metInRange search firstEmpty meets vacant holds tableOf entryOf inRange emptySoFar
 rest-empty memory k i is empty h e =
-    rw e (ap (λ (o : Option ℕ). if metInRange memory k is then (answered (search (tableOf memory) k is) o) else Damaged)
+    rw e (ap (λ (o : Option ℕ). if metInRange memory k is then (answered (search addressKeys (tableOf memory) k is) o) else Damaged)
     (sym (or-else-empty empty i (firstEmpty (tableOf memory) is) h)))
 
 -- an entry with another key, in range
@@ -185,7 +187,7 @@ seek-rest memory k (i ∷ is) empty (also h hs) =
     (λ r. cons-damaged memory k i is empty r ∙ sym (rest-damaged memory k i is empty r))
 
 whole : (memory : List ℕ) (k : ℕ) → lookUp memory k ≡ rest memory k (places k) 4112
-unfolding lookUp rest find emptyFor orElse
+unfolding lookUp rest find findIn emptyFor emptyIn orElse
 whole memory k = refl
 
 pub look-up-seek : (memory : List ℕ) (k : ℕ) → lookUp memory k ≡ seek memory k (places k) 4112

@@ -1,13 +1,15 @@
 -- Each change of memory is the rules' change of its table, and keeps memory in range. Assumes nothing.
 use Prim.Native.Nat.{ℕ, _^_, _≤_, _<_}
 use mathlib.Core.Path.{_≡_, refl, ap, _∙_, fun-ext}
-use mathlib.Core.Bool.{true, false}
+use mathlib.Core.Bool.{true, false, not}
 use mathlib.Core.List.{List}
 use mathlib.Core.Option.{Option, none, some}
 use native.Mathlib.Omega.{arith}
 use lib.ListN.{length, getD, set}
-use Rattle.rules.specs.Choice.{if_then_else_}
-use Rattle.rules.specs.Addresses.{placeCount, Entry, Table, Found as Match, at, nowhere, find, isFound, emptyFor, isFull, noPlaceFor, put, marked, mark, learnedEntry, learnNew, learnAt, learn, aged, staticEntry, staticAt, setStatic, removeAt, remove}
+use Rattle.rules.specs.Numbers.{placeCount}
+use Rattle.rules.specs.Addresses.{Entry, Table, find, emptyFor, withMark, answered as ruleAnswered, lookUp as ruleLookUp, hitMarks, afterLookUp}
+use Rattle.rules.specs.Addresses.{learningBy, learningOf, isNoPlace, learnedEntry, learnBy, learn, aged, staticEntry, setStatic, isFull, noPlaceFor, remove}
+use Rattle.rules.specs.Tables.{Found as Match, at, nowhere, isFound, put, placeBy, placeIn, putAt, setIn, removeFound, removeIn}
 use Rattle.rules.proofs.Choice.{on}
 use Rattle.addresses.specs.Numbers.{staticIn, entryIn, entryOf, tableOf, allInRange}
 use Rattle.addresses.specs.Search.{answered, lookUp, matched, full, damaged}
@@ -38,17 +40,17 @@ static-read : (n : ℕ) (e : Entry) → entryOf n ≡ some e → staticIn n ≡ 
 unfolding entryIn
 static-read n e h = ap (λ (x : Entry). x .static) (entry-there n e h .1)
 
-marked-read : (n : ℕ) (e : Entry) → entryOf n ≡ some e → entryOf (markedNumber n) ≡ some (marked e)
+marked-read : (n : ℕ) (e : Entry) → entryOf n ≡ some e → entryOf (markedNumber n) ≡ some (withMark true e)
 marked-read n e h =
     let t = entry-there n e h in
-    entry-of (markedNumber n) (marked-alike n (t .0) .vacancy ∙ t .0) ∙ ap some (marked-entry n (t .0) ∙ ap marked (t .1))
+    entry-of (markedNumber n) (marked-alike n (t .0) .vacancy ∙ t .0) ∙ ap some (marked-entry n (t .0) ∙ ap (withMark true) (t .1))
 
 -- ---- one place
 
 module _ (memory : List ℕ) (long : length memory ≡ placeCount) (k : ℕ) where
   -- the place of a match, and what its number reads as
   module _ (i : ℕ) (e : Entry) (f : find (tableOf memory) k ≡ at i e) where
-    hit : Hit (tableOf memory) k i e
+    hit : Hit (tableOf memory) i e
     hit = find-hit (tableOf memory) k i e f
 
     there : entryOf (getD memory i 0) ≡ some e
@@ -62,61 +64,61 @@ module _ (memory : List ℕ) (long : length memory ≡ placeCount) (k : ℕ) whe
   empty-set i g n o w =
       table-set memory i n (omega (arith, empty-inside (tableOf memory) k i g)) ∙ ap (λ (x : Option Entry). put i x (tableOf memory)) w
 
-  mark-at : (m : Match) (o : Option ℕ) → find (tableOf memory) k ≡ m → tableOf (markedBy (answered m o) memory) ≡ mark m (tableOf memory)
-  unfolding answered markedBy mark
-  mark-at (at i e) o f = hit-set i e f (markedNumber (getD memory i 0)) (some (marked e)) (marked-read (getD memory i 0) e (there i e f))
+  mark-at : (m : Match Entry) (o : Option ℕ) → find (tableOf memory) k ≡ m → tableOf (markedBy (answered m o) memory) ≡ afterLookUp (ruleAnswered m) (tableOf memory)
+  unfolding answered markedBy ruleAnswered afterLookUp hitMarks
+  mark-at (at i e) o f = hit-set i e f (markedNumber (getD memory i 0)) (some (withMark true e)) (marked-read (getD memory i 0) e (there i e f))
   mark-at nowhere (some i) f = refl
   mark-at nowhere none f = refl
 
-  remove-at : (m : Match) (o : Option ℕ) → find (tableOf memory) k ≡ m → tableOf (removedBy (answered m o) memory) ≡ removeAt m (tableOf memory)
-  unfolding answered removedBy removeAt
+  remove-at : (m : Match Entry) (o : Option ℕ) → find (tableOf memory) k ≡ m → tableOf (removedBy (answered m o) memory) ≡ removeFound m (tableOf memory)
+  unfolding answered removedBy removeFound
   remove-at (at i e) o f = hit-set i e f 0 none gone-entry
   remove-at nowhere (some i) f = refl
   remove-at nowhere none f = refl
 
-  learn-at : (port : ℕ) → k < 2 ^ 52 → port ≤ 4 → (m : Match) (o : Option ℕ) → find (tableOf memory) k ≡ m → emptyFor (tableOf memory) k ≡ o
-      → tableOf (learnedBy (answered m o) k port memory .1) ≡ learnAt m o k port (tableOf memory) .table
-  unfolding answered learnedBy learnAt learnNew
+  learn-at : (port : ℕ) → k < 2 ^ 52 → port ≤ 4 → (m : Match Entry) (o : Option ℕ) → find (tableOf memory) k ≡ m → emptyFor (tableOf memory) k ≡ o
+      → tableOf (learnedBy (answered m o) k port memory .1) ≡ learnBy (learningBy m o) k port (tableOf memory)
+  unfolding answered learnedBy learningBy learnBy
   learn-at port h p (at i e) o f g =
       let s : staticIn (getD memory i 0) ≡ e .static = static-read (getD memory i 0) e (there i e f) in
       on (e .static)
       (λ b. rw (s, b))
-      (λ b. rw (s, b, hit i e f .keyed)
+      (λ b. rw (s, b)
       (hit-set i e f (learnedNumber k port) (some (learnedEntry k port)) (read-written (learnedEntry k port) (learned-fits k port h p))))
   learn-at port h p nowhere (some i) f g =
       empty-set i g (learnedNumber k port) (some (learnedEntry k port)) (read-written (learnedEntry k port) (learned-fits k port h p))
   learn-at port h p nowhere none f g = refl
 
-  placed-at : (port : ℕ) (m : Match) (o : Option ℕ) → learnedBy (answered m o) k port memory .0 ≡ learnAt m o k port (tableOf memory) .placed
-  unfolding answered learnedBy learnAt learnNew
-  placed-at port (at i e) o = refl
+  placed-at : (port : ℕ) (m : Match Entry) (o : Option ℕ) → learnedBy (answered m o) k port memory .0 ≡ not (isNoPlace (learningBy m o))
+  unfolding answered learnedBy learningBy isNoPlace
+  placed-at port (at i e) o = on (e .static) (λ b. rw b) (λ b. rw b)
   placed-at port nowhere (some i) = refl
   placed-at port nowhere none = refl
 
-  static-at : (port : ℕ) → k < 2 ^ 52 → port ≤ 4 → (m : Match) (o : Option ℕ) → find (tableOf memory) k ≡ m → emptyFor (tableOf memory) k ≡ o
-      → tableOf (staticBy (answered m o) k port memory) ≡ staticAt m o k port (tableOf memory)
-  unfolding answered staticBy staticAt
+  static-at : (port : ℕ) → k < 2 ^ 52 → port ≤ 4 → (m : Match Entry) (o : Option ℕ) → find (tableOf memory) k ≡ m → emptyFor (tableOf memory) k ≡ o
+      → tableOf (staticBy (answered m o) k port memory) ≡ putAt (placeBy m o) (staticEntry k port) (tableOf memory)
+  unfolding answered staticBy placeBy putAt
   static-at port h p (at i e) o f g =
       hit-set i e f (staticNumber k port) (some (staticEntry k port)) (read-written (staticEntry k port) (static-fits k port h p))
   static-at port h p nowhere (some i) f g =
       empty-set i g (staticNumber k port) (some (staticEntry k port)) (read-written (staticEntry k port) (static-fits k port h p))
   static-at port h p nowhere none f g = refl
 
-  matched-at : (m : Match) (o : Option ℕ) → matched (answered m o) ≡ isFound m
+  matched-at : (m : Match Entry) (o : Option ℕ) → matched (answered m o) ≡ isFound m
   unfolding answered isFound
   matched-at (at i e) o = refl
   matched-at nowhere (some i) = refl
   matched-at nowhere none = refl
 
-  full-at : (m : Match) (o : Option ℕ) → full (answered m o) ≡ (if isFound m then false else isFull o)
-  unfolding answered isFound isFull
+  full-at : (m : Match Entry) (o : Option ℕ) → full (answered m o) ≡ isFull (placeBy m o)
+  unfolding answered placeBy isFull
   full-at (at i e) o = refl
   full-at nowhere (some i) = refl
   full-at nowhere none = refl
 
   module _ (whole : damaged (lookUp memory k) ≡ false) where
     pub step-theorems : StepTheorems memory long k whole
-    unfolding remove learn setStatic noPlaceFor
+    unfolding ruleLookUp remove removeIn find learn learningOf setStatic setIn noPlaceFor placeIn emptyFor
     step-theorems =
         let t : Table = tableOf memory in
         let a : lookUp memory k ≡ answered (find t k) (emptyFor t k) = look-up-finds memory k whole in

@@ -6,7 +6,8 @@ use mathlib.Core.Option.{Option, none, some}
 use lib.Dec.{eqb}
 use lib.ListN.{getD}
 use Rattle.rules.specs.Choice.{if_then_else_}
-use Rattle.rules.specs.Addresses.{Entry, places, Found as Match, at, nowhere, find, emptyFor}
+use Rattle.rules.specs.Addresses.{Entry, places, find, emptyFor}
+use Rattle.rules.specs.Tables.{Found as Match, at, nowhere}
 use Rattle.addresses.specs.Numbers.{inRange, tableOf}
 use Rattle.addresses.specs.declared.LookUp.{LookUp}
 use Rattle.addresses.specs.declared.LookUp.the-variants.{Found, Vacant, Full, Damaged}
@@ -21,7 +22,7 @@ metInRange memory k [] = true
 metInRange memory k (i ∷ is) = inRange (getD memory i 0) && (if holds (tableOf memory i) k then true else metInRange memory k is)
 
 -- the port and the place of a match; else the first empty place of the twenty, if there is one
-unfoldable pub answered : Match → Option ℕ → LookUp
+unfoldable pub answered : Match Entry → Option ℕ → LookUp
 answered (at i e) empty = Found (e .port) i
 answered nowhere (some i) = Vacant i
 answered nowhere none = Full

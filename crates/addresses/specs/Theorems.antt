@@ -2,11 +2,13 @@
 -- `proofs/Ranges.antt`, `proofs/LookUps.antt`, `proofs/Steps.antt` and `proofs/Frames.antt` prove it. Assumes nothing: these are definitions.
 use Prim.Native.Nat.{ℕ, _^_, _≤_, _<_}
 use mathlib.Core.Path.{_≡_}
-use mathlib.Core.Bool.{true, false}
+use mathlib.Core.Bool.{true, false, not}
 use mathlib.Core.List.{List}
 use mathlib.Core.Option.{none, some}
 use lib.ListN.{length, set, replicate}
-use Rattle.rules.specs.Addresses.{placeCount, Entry, put, find, isFound, emptyFor, mark, learn, aged, setStatic, noPlaceFor, remove}
+use Rattle.rules.specs.Numbers.{placeCount}
+use Rattle.rules.specs.Addresses.{Entry, find, emptyFor, lookUp as ruleLookUp, afterLookUp, isNoPlace, learningOf, learn, aged, setStatic, noPlaceFor, remove}
+use Rattle.rules.specs.Tables.{put, isFound}
 use Rattle.addresses.specs.Numbers.{inRange, entryOf, tableOf, allInRange, numberOf}
 use Rattle.addresses.specs.Search.{answered, lookUp, placeOf, matched, full, damaged}
 use Rattle.addresses.specs.Writes.{markedBy, learnedBy, staticBy, removedBy, agedBy}
@@ -45,10 +47,10 @@ pub record StepTheorems (memory : List ℕ) (long : length memory ≡ placeCount
   -- refusals 9 and 8
   pub matched-is : matched (lookUp memory k) ≡ isFound (find (tableOf memory) k)
   pub full-is : full (lookUp memory k) ≡ noPlaceFor (tableOf memory) k
-  pub mark-is : tableOf (markedBy (lookUp memory k) memory) ≡ mark (find (tableOf memory) k) (tableOf memory)
+  pub mark-is : tableOf (markedBy (lookUp memory k) memory) ≡ afterLookUp (ruleLookUp (tableOf memory) false k) (tableOf memory)
   pub remove-is : tableOf (removedBy (lookUp memory k) memory) ≡ remove (tableOf memory) k
-  pub learn-is : (port : ℕ) → k < 2 ^ 52 → port ≤ 4 → tableOf (learnedBy (lookUp memory k) k port memory .1) ≡ learn (tableOf memory) k port .table
-  pub learn-placed : (port : ℕ) → learnedBy (lookUp memory k) k port memory .0 ≡ learn (tableOf memory) k port .placed
+  pub learn-is : (port : ℕ) → k < 2 ^ 52 → port ≤ 4 → tableOf (learnedBy (lookUp memory k) k port memory .1) ≡ learn (tableOf memory) k port
+  pub learn-placed : (port : ℕ) → learnedBy (lookUp memory k) k port memory .0 ≡ not (isNoPlace (learningOf (tableOf memory) k))
   pub static-is : (port : ℕ) → k < 2 ^ 52 → port ≤ 4 → tableOf (staticBy (lookUp memory k) k port memory) ≡ setStatic (tableOf memory) k port
 
 -- a frame marks its destination and then learns its source, at what both look-ups found before: the rules' order
@@ -56,9 +58,9 @@ pub record FrameTheorems (memory : List ℕ) (long : length memory ≡ placeCoun
     (whole : damaged (lookUp memory destination) ≡ false) (whole₂ : damaged (lookUp memory source) ≡ false) (port : ℕ) : Type 0 where
   pub learn-marked : source < 2 ^ 52 → port ≤ 4
       → tableOf (learnedBy (lookUp memory source) source port (markedBy (lookUp memory destination) memory) .1)
-      ≡ learn (mark (find (tableOf memory) destination) (tableOf memory)) source port .table
+      ≡ learn (afterLookUp (ruleLookUp (tableOf memory) false destination) (tableOf memory)) source port
   pub placed-marked : learnedBy (lookUp memory source) source port (markedBy (lookUp memory destination) memory) .0
-      ≡ learn (mark (find (tableOf memory) destination) (tableOf memory)) source port .placed
+      ≡ not (isNoPlace (learningOf (afterLookUp (ruleLookUp (tableOf memory) false destination) (tableOf memory)) source))
 
 -- no change changes the length
 pub record LengthTheorems (memory : List ℕ) : Type 0 where

@@ -4,6 +4,7 @@ use mathlib.Core.Bool.{Bool, _&&_, not}
 use mathlib.Core.List.{List, [], _∷_}
 use lib.Dec.{eqb, ltb}
 use lib.ListN.{getD}
+use Rattle.rules.specs.Numbers.{placeCount}
 use Rattle.rules.specs.Choice.{if_then_else_}
 use Rattle.addresses.specs.Numbers.{keyIn, portIn, inRange}
 use Rattle.addresses.specs.declared.LookUp.{LookUp}
@@ -19,10 +20,10 @@ has n k = not (eqb n 0) && eqb (keyIn n) k
 
 -- the first empty place so far; 4,112 says that there was none
 unfoldable pub emptySoFar : ℕ → ℕ → ℕ → ℕ
-emptySoFar before n place = if (eqb n 0 && eqb before 4112) then place else before
+emptySoFar before n place = if (eqb n 0 && eqb before placeCount) then place else before
 
 unfoldable pub unfound : ℕ → LookUp
-unfound empty = if eqb empty 4112 then Full else (Vacant empty)
+unfound empty = if eqb empty placeCount then Full else (Vacant empty)
 
 -- the places that are left of a search
 unfoldable pub seek : List ℕ → ℕ → List ℕ → ℕ → LookUp

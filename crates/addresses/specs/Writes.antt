@@ -4,7 +4,8 @@ use mathlib.Core.Bool.{Bool, true, false}
 use mathlib.Core.List.{List, map}
 use lib.ListN.{getD, set}
 use Rattle.rules.specs.Choice.{if_then_else_}
-use Rattle.rules.specs.Addresses.{placeCount, removed}
+use Rattle.rules.specs.Numbers.{placeCount}
+use Rattle.rules.specs.Addresses.{removed}
 use Rattle.address_numbers.specs.Numbers.{staticIn, tableOf}
 pub use Rattle.address_numbers.specs.Changes.{learnedNumber, staticNumber}
 unfoldable pub use Rattle.address_numbers.specs.Changes.{markedNumber, olderNumber}

@@ -3,7 +3,7 @@ use Prim.Native.Nat.{ℕ, _+_, _*_}
 use mathlib.Core.List.{List, [], _∷_, _++_}
 use lib.ListN.{take, drop}
 use lib.Seq.{sets}
-use Rattle.rules.specs.Cells.{cellSize, storedHeader}
+use Rattle.rules.specs.Cells.{cellSize, headerSize}
 
 -- "what lies behind the last byte in the last cell keeps what was there before"
 abbrev pub storeCells : List ℕ → List ℕ → List ℕ → List ℕ
@@ -17,11 +17,11 @@ loadCells cells (c ∷ cs) = take cellSize (drop (cellSize * c) cells) ++ loadCe
 
 -- the stored header of the frame whose first cell is c, and the count bytes of the frame behind it
 abbrev pub headerIn : List ℕ → ℕ → List ℕ
-headerIn cells c = take storedHeader (drop (cellSize * c) cells)
+headerIn cells c = take headerSize (drop (cellSize * c) cells)
 
 abbrev pub frontIn : List ℕ → ℕ → ℕ → List ℕ
-frontIn cells c count = take count (drop (cellSize * c + storedHeader) cells)
+frontIn cells c count = take count (drop (cellSize * c + headerSize) cells)
 
 -- the bytes of a frame of this length over the cells of a chain
 unfoldable pub frameIn : List ℕ → List ℕ → ℕ → List ℕ
-frameIn cells chain long = take long (drop storedHeader (loadCells cells chain))
+frameIn cells chain long = take long (drop headerSize (loadCells cells chain))

@@ -6,7 +6,7 @@ use lib.ListN.{getD, set}
 use lib.Dec.{leb, ltb}
 use Rattle.rules.specs.Choice.{if_then_else_}
 use Rattle.rules.specs.Cells.{cells, longest}
-use Rattle.rules.specs.Arguments.{mostMask}
+use Rattle.rules.specs.Numbers.{mostMask}
 use Rattle.layout.specs.Places.{freeCountWord, firstFreeWord, sizeWord, portsWord, nextWord}
 use Rattle.cells.specs.Chains.{follow, walk, allBelow}
 use Rattle.cells.specs.declared.free.Room.{Room}

@@ -4,6 +4,7 @@ use mathlib.Core.Bool.{Bool, _&&_}
 use mathlib.Core.List.{List, [], _∷_}
 use lib.ListN.{getD}
 use lib.Dec.{leb}
+use Rattle.rules.specs.Numbers.{lastVid}
 use Rattle.rules.specs.Cells.{shortest, longest}
 use Rattle.rules.specs.Tags.{twoBytesAt}
 use Rattle.rules.specs.Arguments.{OperationNumbers}
@@ -37,12 +38,12 @@ storedInRange h =
     leb shortest (h .length)
     && leb (h .length) longest
     && leb 1 (h .default % 4096)
-    && leb (h .default % 4096) 4094
+    && leb (h .default % 4096) lastVid
     && leb (h .operation % 8) 4
     && leb (h .operation / 16 % 4) 2
     && leb (h .operation / 64) 2
     && leb (h .exempt) 1
-    && leb (h .header % 4096) 4094
+    && leb (h .header % 4096) lastVid
 
 -- ---- the VLAN operation
 

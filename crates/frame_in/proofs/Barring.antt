@@ -9,15 +9,17 @@ use native.Mathlib.Omega.{arith}
 use borrow.Author.Tests.{ne-eqb}
 use lib.Dec.{eqb}
 use lib.ListN.{length}
-use Rattle.rules.specs.Choice.{if_then_else_}
+use Rattle.rules.specs.Choice.{if_then_else_, sift}
 use Rattle.rules.specs.Lines.{Line, line, first}
 use Rattle.rules.specs.Tags.{tagsOf}
 use Rattle.rules.specs.Reasons.{Reason, vid4095, noVlan, noMember, reasonNumber}
-use Rattle.rules.specs.Settings.{Settings, Vlan, isThere, vlanOf}
+use Rattle.rules.specs.Settings.{Vlan, isThere, vlanOf, stateFor}
 use Rattle.rules.specs.Arguments.{VlanNumbers, bit, vlanInRange, vlanEntry}
-use Rattle.rules.specs.Arrival.{vidOf, vlanFor, arrivalRules, unless, vlanVerdict}
+use Rattle.rules.specs.Facts.{Facts, factsOf}
+use Rattle.rules.specs.ReasonTable.{entering, partNumber, reasonTable, linesIn, rowsOf}
 use Rattle.rules.proofs.Choice.{on}
-use Rattle.rules.proofs.Arrival.{first-append-none, first-append-some}
+use Rattle.rules.proofs.Lines.{first-append-none, first-append-some}
+use Rattle.rules.proofs.Parts.{reason-entering, entering-stops}
 use Rattle.settings.specs.Records.{vlanIs, vlanFrom, vlanAt}
 use Rattle.settings.specs.Table.{foundVlan}
 use Rattle.settings.specs.SettingsOf.{vlansOf, settingsOf}
@@ -25,43 +27,51 @@ use Rattle.settings.specs.FindLaws.{found-there, found-nowhere}
 use Rattle.settings.specs.RangeLaws.{vlan-range}
 use Rattle.settings.specs.declared.vlan.VlanSettings.{VlanSettings}
 use Rattle.settings.specs.declared.table.Found.the-variants.{At, Nowhere, Damaged}
-use Rattle.addresses.specs.Numbers.{tableOf}
 use Rattle.frame_rules.specs.declared.arrival.Arrival.{Arrival}
 use Rattle.frame_rules.specs.Plans.{damagedPlan, dropPlan}
 use Rattle.frame_rules.specs.Arrivals.{portRules, absentReason}
 use Rattle.frame_in.specs.Met.{unlessDropped, metMember, metEntry, metTable, metFrame}
-use Rattle.frame_in.specs.Call.{isNothing}
+use Rattle.frame_in.specs.Call.{factsIn}
 use Rattle.frame_in.specs.Judged.{Judged, Way}
-use Rattle.frame_in.specs.Stages.{packet, Ordinary, InEntry, Member}
+use Rattle.frame_in.specs.Stages.{Ordinary, InEntry, Member}
+use Rattle.frame_in.proofs.Facts.{facts-port, facts-vid, facts-there, facts-vlan}
 use Rattle.frame_in.proofs.Judgements.{damaged-judged, drop-judged}
 use Rattle.frame_in.proofs.Steps.{onReason, no-reason, way-on}
 
 -- 7 to 9
-unfoldable pub laterRules : Settings → ℕ → List ℕ → List (Line Reason)
-laterRules s port frame =
-    line vid4095 (eqb (vidOf s port frame) 4095)
-    ∷ line noVlan (not (isThere (s .vlans) (vidOf s port frame)))
-    ∷ line noMember (not (vlanFor s port frame .member port))
+unfoldable pub laterRules : Facts → List (Line Reason)
+laterRules f =
+    line vid4095 (eqb (f .vid) 4095)
+    ∷ line noVlan (not (f .there))
+    ∷ line noMember (not (f .vlan .member (f .port)))
     ∷ []
 
-pub rules-split : (s : Settings) (port : ℕ) (frame : List ℕ) → arrivalRules s port frame ≡ portRules (s .port port) (length (tagsOf frame)) ++ laterRules s port frame
-unfolding arrivalRules portRules laterRules
-rules-split s port frame = refl
+module _ (links addresses frame : List ℕ) (port : ℕ) where
+  -- the arrival port bars by 4 to 6, the VLAN table by 7 to 9
+  pub rules-split : rowsOf entering (factsIn links addresses port frame)
+      ≡ portRules (settingsOf links .port port) (length (tagsOf frame)) ++ laterRules (factsIn links addresses port frame)
+  unfolding rowsOf linesIn sift partNumber reasonTable portRules laterRules factsIn factsOf stateFor
+  rules-split = refl
 
-rules-some : (s : Settings) (port : ℕ) (frame : List ℕ) (r : Reason) → first (portRules (s .port port) (length (tagsOf frame))) ≡ some r → first (arrivalRules s port frame) ≡ some r
-rules-some s port frame r e = ap first (rules-split s port frame) ∙ first-append-some (portRules (s .port port) (length (tagsOf frame))) (laterRules s port frame) r e
+  rules-some : (r : Reason) → first (portRules (settingsOf links .port port) (length (tagsOf frame))) ≡ some r
+      → first (rowsOf entering (factsIn links addresses port frame)) ≡ some r
+  rules-some r e =
+      ap first rules-split ∙ first-append-some (portRules (settingsOf links .port port) (length (tagsOf frame))) (laterRules (factsIn links addresses port frame)) r e
 
-pub rules-later : (s : Settings) (port : ℕ) (frame : List ℕ) → first (portRules (s .port port) (length (tagsOf frame))) ≡ none
-    → first (arrivalRules s port frame) ≡ first (laterRules s port frame)
-rules-later s port frame e = ap first (rules-split s port frame) ∙ first-append-none (portRules (s .port port) (length (tagsOf frame))) (laterRules s port frame) e
+  pub rules-later : first (portRules (settingsOf links .port port) (length (tagsOf frame))) ≡ none
+      → first (rowsOf entering (factsIn links addresses port frame)) ≡ first (laterRules (factsIn links addresses port frame))
+  rules-later e =
+      ap first rules-split ∙ first-append-none (portRules (settingsOf links .port port) (length (tagsOf frame))) (laterRules (factsIn links addresses port frame)) e
 
 module _ (links addresses frame : List ℕ) (n port : ℕ) where
+  abbrev f : Facts
+  f = factsIn links addresses port frame
+
   -- a reason of 4 to 9 that was found
-  rule-judged : {m : Bool} → Way links addresses frame n port m (unless (first (arrivalRules (settingsOf links) port frame)) (tableOf addresses) (vlanVerdict (settingsOf links) (tableOf addresses) port (packet frame))) (isNothing (first (arrivalRules (settingsOf links) port frame)))
-      → m ≡ false → (r : Reason) (k : ℕ) → k ≡ reasonNumber r → first (arrivalRules (settingsOf links) port frame) ≡ some r → Judged links addresses frame n port (dropPlan k)
-  unfolding unless isNothing
-  rule-judged w a r k q e =
-      drop-judged links addresses frame n port (w .lent) r k q (w .meets-is ∙ a) (w .verdict-is ∙ rw e) (w .learns-is ∙ rw e)
+  rule-judged : {m : Bool} → Way links addresses frame n port m → f .bpdu ≡ false → m ≡ false → (r : Reason) (k : ℕ) → k ≡ reasonNumber r
+      → first (rowsOf entering f) ≡ some r → Judged links addresses frame n port (dropPlan k)
+  rule-judged w o a r k q e =
+      drop-judged links addresses frame n port (w .lent) r k q (w .meets-is ∙ a) (reason-entering f (w .read) o r e) (entering-stops f o r e)
 
   -- ---- 4 to 8
 
@@ -73,15 +83,14 @@ module _ (links addresses frame : List ℕ) (n port : ℕ) where
     pub barred-judged : 0 < arrival .barred → Judged links addresses frame n port (dropPlan (arrival .barred))
     barred-judged h =
         onReason (first (portRules (settingsOf links .port port) (length (tagsOf frame)))) (arrival .barred) (o .arrival-is .barred) h
-        (λ r e q. rule-judged (o .way) (met-none r e) r (arrival .barred) q (rules-some (settingsOf links) port frame r e))
+        (λ r e q. rule-judged (o .way) (o .ordinary) (met-none r e) r (arrival .barred) q (rules-some links addresses frame port r e))
 
     module _ (free : arrival .barred ≤ 0) where
       not-barred : first (portRules (settingsOf links .port port) (length (tagsOf frame))) ≡ none
       not-barred = no-reason _ (arrival .barred) (o .arrival-is .barred) free
 
-      vid-at : arrival .vid ≡ vidOf (settingsOf links) port frame
-      unfolding vidOf
-      vid-at = o .arrival-is .vid
+      vid-at : arrival .vid ≡ f .vid
+      vid-at = o .arrival-is .vid ∙ sym (facts-vid links addresses frame port)
 
       table-meets : metFrame links addresses port frame ≡ metTable links addresses port frame (foundVlan links (arrival .vid))
       unfolding metFrame unlessDropped
@@ -95,17 +104,17 @@ module _ (links addresses frame : List ℕ) (n port : ℕ) where
       unfolding metTable
       absent-meets e = table-meets ∙ rw e
 
-      not-there : foundVlan links (arrival .vid) ≡ Nowhere → isThere (settingsOf links .vlans) (vidOf (settingsOf links) port frame) ≡ false
+      not-there : foundVlan links (arrival .vid) ≡ Nowhere → f .there ≡ false
       unfolding settingsOf
-      not-there e = ap (isThere (vlansOf links)) (sym vid-at) ∙ found-nowhere links (arrival .vid) e
+      not-there e = facts-there links addresses frame port ∙ ap (isThere (vlansOf links)) (sym vid-at) ∙ found-nowhere links (arrival .vid) e
 
-      seven : eqb (arrival .vid) 4095 ≡ true → first (arrivalRules (settingsOf links) port frame) ≡ some vid4095
+      seven : eqb (arrival .vid) 4095 ≡ true → first (rowsOf entering f) ≡ some vid4095
       unfolding laterRules first
-      seven e = rules-later (settingsOf links) port frame not-barred ∙ rw (ap (λ (v : ℕ). eqb v 4095) (sym vid-at) ∙ e)
+      seven e = rules-later links addresses frame port not-barred ∙ rw (ap (λ (v : ℕ). eqb v 4095) (sym vid-at) ∙ e)
 
-      eight : eqb (arrival .vid) 4095 ≡ false → foundVlan links (arrival .vid) ≡ Nowhere → first (arrivalRules (settingsOf links) port frame) ≡ some noVlan
+      eight : eqb (arrival .vid) 4095 ≡ false → foundVlan links (arrival .vid) ≡ Nowhere → first (rowsOf entering f) ≡ some noVlan
       unfolding laterRules first
-      eight e a = rules-later (settingsOf links) port frame not-barred ∙ rw (ap (λ (v : ℕ). eqb v 4095) (sym vid-at) ∙ e, not-there a)
+      eight e a = rules-later links addresses frame port not-barred ∙ rw (ap (λ (v : ℕ). eqb v 4095) (sym vid-at) ∙ e, not-there a)
 
       absent-seven : eqb (arrival .vid) 4095 ≡ true → absentReason (arrival .vid) ≡ reasonNumber vid4095
       unfolding absentReason reasonNumber
@@ -118,8 +127,8 @@ module _ (links addresses frame : List ℕ) (n port : ℕ) where
       pub absent-judged : (k : ℕ) → k ≡ absentReason (arrival .vid) → foundVlan links (arrival .vid) ≡ Nowhere → Judged links addresses frame n port (dropPlan k)
       absent-judged k q a =
           on (eqb (arrival .vid) 4095)
-          (λ e. rule-judged (o .way) (absent-meets a) vid4095 k (q ∙ absent-seven e) (seven e))
-          (λ e. rule-judged (o .way) (absent-meets a) noVlan k (q ∙ absent-eight e) (eight e a))
+          (λ e. rule-judged (o .way) (o .ordinary) (absent-meets a) vid4095 k (q ∙ absent-seven e) (seven e))
+          (λ e. rule-judged (o .way) (o .ordinary) (absent-meets a) noVlan k (q ∙ absent-eight e) (eight e a))
 
       module _ (e : ℕ) (found : foundVlan links (arrival .vid) ≡ At e) where
         pub entry-small : e < 16
@@ -129,22 +138,23 @@ module _ (links addresses frame : List ℕ) (n port : ℕ) where
         unfolding metTable
         entry-meets = table-meets ∙ rw found
 
-        entry-there : isThere (settingsOf links .vlans) (vidOf (settingsOf links) port frame) ≡ true
+        entry-there : f .there ≡ true
         unfolding settingsOf
-        entry-there = ap (isThere (vlansOf links)) (sym vid-at) ∙ found-there links (arrival .vid) e found .is-there
+        entry-there = facts-there links addresses frame port ∙ ap (isThere (vlansOf links)) (sym vid-at) ∙ found-there links (arrival .vid) e found .is-there
 
-        entry-is : vlanFor (settingsOf links) port frame ≡ vlanEntry (vlanAt links e)
-        unfolding vlanFor settingsOf
-        entry-is = ap (vlanOf (vlansOf links)) (sym vid-at) ∙ found-there links (arrival .vid) e found .is-entry
+        entry-is : f .vlan ≡ vlanEntry (vlanAt links e)
+        unfolding settingsOf
+        entry-is = facts-vlan links addresses frame port ∙ ap (vlanOf (vlansOf links)) (sym vid-at) ∙ found-there links (arrival .vid) e found .is-entry
 
-        entry-vid : vlanAt links e .vid ≡ vidOf (settingsOf links) port frame
+        entry-vid : vlanAt links e .vid ≡ f .vid
         unfolding vlanFrom
         entry-vid = rw add-zero (found-there links (arrival .vid) e found .has-vid ∙ vid-at)
 
         pub in-entry : (vlan : VlanSettings) → vlanIs vlan ≡ vlanAt links e → InEntry links addresses frame n port arrival vlan
         in-entry vlan read =
             record {
-              way = way-on links addresses frame n port (o .way) (entry-meets ∙ ap (metEntry links addresses port frame) (sym read)) refl refl;
+              way = way-on links addresses frame n port (o .way) (entry-meets ∙ ap (metEntry links addresses port frame) (sym read));
+              ordinary = o .ordinary;
               arrival-is = o .arrival-is;
               vlan-is = entry-is ∙ ap vlanEntry (sym read);
               not-barred = not-barred;
@@ -160,16 +170,16 @@ module _ (links addresses frame : List ℕ) (n port : ℕ) where
     entry-damaged e = damaged-judged links addresses frame n port (i .way .lent) (i .way .meets-is ∙ rw e)
 
     module _ (good : vlanInRange (vlanIs vlan) ≡ true) where
-      vid-known : eqb (vidOf (settingsOf links) port frame) 4095 ≡ false
-      vid-known = ne-eqb (vidOf (settingsOf links) port frame) 4095 (λ e. omega (arith, vlan-range (vlanIs vlan) good .vid .most, i .vid-is))
+      vid-known : eqb (f .vid) 4095 ≡ false
+      vid-known = ne-eqb (f .vid) 4095 (λ e. omega (arith, vlan-range (vlanIs vlan) good .vid .most, i .vid-is))
 
-      member-is : vlanFor (settingsOf links) port frame .member port ≡ bit (vlan .members) port
+      member-is : f .vlan .member (f .port) ≡ bit (vlan .members) port
       unfolding vlanEntry vlanIs
-      member-is = ap (λ (v : Vlan). v .member port) (i .vlan-is)
+      member-is = ap (f .vlan .member) (facts-port links addresses frame port) ∙ ap (λ (v : Vlan). v .member port) (i .vlan-is)
 
-      member-rule : (b : Bool) → bit (vlan .members) port ≡ b → first (arrivalRules (settingsOf links) port frame) ≡ (if not b then some noMember else none)
+      member-rule : (b : Bool) → bit (vlan .members) port ≡ b → first (rowsOf entering f) ≡ (if not b then some noMember else none)
       unfolding laterRules first
-      member-rule b e = rules-later (settingsOf links) port frame (i .not-barred) ∙ rw (vid-known, i .there, member-is ∙ e)
+      member-rule b e = rules-later links addresses frame port (i .not-barred) ∙ rw (vid-known, i .there, member-is ∙ e)
 
       entry-meets-by : (b : Bool) → bit (vlan .members) port ≡ b → metEntry links addresses port frame (vlanIs vlan) ≡ (if b then metMember links addresses port frame (vlanIs vlan) else false)
       unfolding metEntry vlanIs
@@ -177,13 +187,14 @@ module _ (links addresses frame : List ℕ) (n port : ℕ) where
 
       pub nine : bit (vlan .members) port ≡ false → Judged links addresses frame n port (dropPlan 9)
       unfolding reasonNumber
-      nine e = rule-judged (i .way) (entry-meets-by false e) noMember 9 refl (member-rule false e)
+      nine e = rule-judged (i .way) (i .ordinary) (entry-meets-by false e) noMember 9 refl (member-rule false e)
 
       pub as-member : bit (vlan .members) port ≡ true → Member links addresses frame n port arrival vlan
-      unfolding unless isNothing
       as-member e =
           record {
-            way = way-on links addresses frame n port (i .way) (entry-meets-by true e) (rw (member-rule true e)) (rw (member-rule true e));
+            way = way-on links addresses frame n port (i .way) (entry-meets-by true e);
+            ordinary = i .ordinary;
+            entered = member-rule true e;
             arrival-is = i .arrival-is;
             vlan-is = i .vlan-is;
             in-range = good;

@@ -8,15 +8,16 @@ use lib.Pow.{pow-pos}
 use native.Mathlib.Omega.{arith}
 use borrow.Author.Tests.{ne-eqb}
 use lib.Dec.{eqb}
-use Rattle.rules.specs.Choice.{if_then_else_, sift}
-use Rattle.rules.specs.Arrival.{Frame, Verdict}
-use Rattle.rules.specs.Counters.{counterNumber}
-use Rattle.rules.specs.PortTests.{Test, passes, notMember, arrival, elsewhere, state, queueOff, allPorts, isCandidate, isPassed, anyCandidate, portsLeft}
+use Rattle.rules.specs.Choice.{if_then_else_, sift, isNone}
+use Rattle.rules.specs.Facts.{Facts}
+use Rattle.rules.specs.Outcomes.{Frame, outcomeOf}
+use Rattle.rules.specs.Counters.{counterNumber, offered}
+use Rattle.rules.specs.PortTests.{Test, passes, notMember, arrival, elsewhere, state, queueOff, isCandidate, isPassed, anyCandidate, portsLeft}
+use Rattle.rules.specs.Numbers.{allPorts}
 use Rattle.rules.proofs.Choice.{on}
 use Rattle.layout.specs.Places.{ringOfQueue}
-use Rattle.machine.specs.Events.{Event, portOf, counterOf}
-use Rattle.machine.specs.Events as Events
-use Rattle.machine.specs.FrameIn.{mask, isNone, testEvent, testEvents, lessonEvents, fateEvents, queuedAt, outcomeEvents, Outcome, frameInEvents}
+use Rattle.machine.specs.Events.{Event, counts}
+use Rattle.machine.specs.FrameIn.{mask, testEvent, testEvents, candidateEvents, lessonEvents, joinEvents, outcomeEvents, frameInEvents}
 use Rattle.frame_rules.specs.Candidates.{testNumber, numbersOf, anyCandidateIn}
 use Rattle.frame_rules.specs.Room.{leftMask}
 use Rattle.frame_in.specs.Carried.{countTest, countedTests, countQueued, countedQueued, countIf, pushedIf, pushedTests}
@@ -32,7 +33,7 @@ counted-append (e ∷ es) fs l = counted-append es fs _
 -- ---- the tests
 
 test-counted : (r : ℕ) (t : Test) (l : List ℕ) → counted (testEvent r t) l ≡ countTest r (testNumber t) l
-unfolding counted testEvent countTest testNumber portOf counterOf counterNumber
+unfolding counted testEvent countTest testNumber counterNumber
 test-counted r passes l = refl
 test-counted r notMember l = refl
 test-counted r arrival l = refl
@@ -90,18 +91,18 @@ module _ (test : ℕ → Test) where
   number-passed r b e = sym (passed-is (test r)) ∙ e
 
   queued-step : (f : Frame) (r : ℕ) (rs : List ℕ) (l : List ℕ)
-      → counted (queuedAt f (left (r ∷ rs))) l ≡ counted (queuedAt f (left rs)) (countQueued r (testNumber (test r)) l)
-  unfolding sift queuedAt counted countQueued portOf counterOf counterNumber
+      → counted (joinEvents f (left (r ∷ rs))) l ≡ counted (joinEvents f (left rs)) (countQueued r (testNumber (test r)) l)
+  unfolding sift joinEvents counted countQueued counterNumber
   queued-step f r rs l =
       on (isPassed (test r))
       (λ e. rw (e, number-passed r true e))
       (λ e. rw (e, number-passed r false e))
 
-  queued-end : (f : Frame) (l : List ℕ) → counted (queuedAt f (left [])) l ≡ l
-  unfolding sift queuedAt counted
+  queued-end : (f : Frame) (l : List ℕ) → counted (joinEvents f (left [])) l ≡ l
+  unfolding sift joinEvents counted
   queued-end f l = refl
 
-  pub queued-counted : (f : Frame) (l : List ℕ) → counted (queuedAt f (portsLeft test)) l ≡ countedQueued (numbersOf test) l
+  pub queued-counted : (f : Frame) (l : List ℕ) → counted (joinEvents f (portsLeft test)) l ≡ countedQueued (numbersOf test) l
   unfolding portsLeft countedQueued
   queued-counted f l =
       queued-step f 0 (1 ∷ 2 ∷ 3 ∷ 4 ∷ []) l
@@ -162,19 +163,19 @@ none-is (p ∷ ps) = sym (ne-eqb (2 ^ p + mask ps) 0 (λ e. omega (arith, pow-po
 -- ---- all events
 
 lesson-counted : (p : ℕ) (b : Bool) (l : List ℕ) → counted (lessonEvents p b) l ≡ countIf b p l
-unfolding counted lessonEvents countIf portOf counterOf counterNumber
+unfolding counted lessonEvents countIf counterNumber
 lesson-counted p true l = refl
 lesson-counted p false l = refl
 
-first-counted : (p : ℕ) (b : Bool) (l : List ℕ) → counted (Events.offered p ∷ lessonEvents p b) l ≡ countIf b p (bumped p 0 l)
-unfolding counted portOf counterOf counterNumber
+first-counted : (p : ℕ) (b : Bool) (l : List ℕ) → counted (counts offered p ∷ lessonEvents p b) l ≡ countIf b p (bumped p 0 l)
+unfolding counted counterNumber
 first-counted p b l = lesson-counted p b (bumped p 0 l)
 
-pub events-counted : (p : ℕ) (v : Verdict) (o : Outcome) (l : List ℕ)
-    → counted (frameInEvents p v o) l ≡ counted (outcomeEvents p o) (counted (fateEvents (v .fate)) (countIf (v .notLearned) p (bumped p 0 l)))
+pub events-counted : (f : Facts) (unlearned : Bool) (l : List ℕ) → counted (frameInEvents f unlearned) l
+    ≡ counted (outcomeEvents (f .port) (outcomeOf f)) (counted (candidateEvents f) (countIf unlearned (f .port) (bumped (f .port) 0 l)))
 unfolding frameInEvents
-events-counted p v o l =
-    counted-append ((Events.offered p ∷ lessonEvents p (v .notLearned)) ++ fateEvents (v .fate)) (outcomeEvents p o) l
-    ∙ ap (counted (outcomeEvents p o))
-    (counted-append (Events.offered p ∷ lessonEvents p (v .notLearned)) (fateEvents (v .fate)) l
-    ∙ ap (counted (fateEvents (v .fate))) (first-counted p (v .notLearned) l))
+events-counted f unlearned l =
+    counted-append ((counts offered (f .port) ∷ lessonEvents (f .port) unlearned) ++ candidateEvents f) (outcomeEvents (f .port) (outcomeOf f)) l
+    ∙ ap (counted (outcomeEvents (f .port) (outcomeOf f)))
+    (counted-append (counts offered (f .port) ∷ lessonEvents (f .port) unlearned) (candidateEvents f) l
+    ∙ ap (counted (candidateEvents f)) (first-counted (f .port) unlearned l))

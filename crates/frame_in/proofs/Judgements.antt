@@ -1,8 +1,9 @@
 -- The plans that a judgement comes to, each right by what has been found. Assumes nothing.
 use Prim.Native.Nat.{ℕ, _^_, _≤_, _<_}
 use mathlib.Core.Path.{_≡_, refl, sym, ap, subst, _∙_}
-use mathlib.Core.Bool.{Bool, true, false, not, true≢false}
+use mathlib.Core.Bool.{true, false, not, true≢false}
 use mathlib.Core.List.{List}
+use mathlib.Core.Option.{some}
 use native.Mathlib.Omega.{arith}
 use borrow.Author.Tests.{eqb-true, eqb-false}
 use lib.Dec.{eqb, ltb}
@@ -10,13 +11,14 @@ use lib.ListN.{length}
 use Rattle.rules.specs.Lines.{first}
 use Rattle.rules.specs.Cells.{cells}
 use Rattle.rules.specs.Reasons.{Reason, short, long, groupSource, tagCount, portBlocking, portListening, vid4095, noVlan, noMember, portLearning, noCandidate, noPortLeft, noRoom, reasonNumber}
-use Rattle.rules.specs.PortTests.{Test, portsLeft}
-use Rattle.rules.specs.Arrival.{Frame, drop, offer, Verdict, dropped}
+use Rattle.rules.specs.PortTests.{portsLeft}
+use Rattle.rules.specs.Facts.{Facts}
+use Rattle.rules.specs.ReasonTable.{queueing, partNumber, reasonTable, linesIn, rowsOf, reasonFor}
+use Rattle.rules.specs.Outcomes.{drops, queues, frameOf, outcomeBy, outcomeOf, countsTests, learns, isNotLearned}
+use Rattle.rules.specs.Choice.{sift, isNone}
 use Rattle.rules.proofs.Choice.{on}
-use Rattle.machine.specs.Waiting.{size}
-use Rattle.machine.specs.FrameIn.{isNone, roomRules, drops, queues, outcomeBy, outcomeOf, fateEvents}
+use Rattle.machine.specs.FrameIn.{candidateEvents}
 use Rattle.layout.specs.Places.{cellBytes}
-use Rattle.settings.specs.SettingsOf.{settingsOf}
 use Rattle.addresses.specs.Numbers.{tableOf}
 use Rattle.addresses.specs.Search.{placeOf}
 use Rattle.cells.specs.Free.{freeCount, roomFor}
@@ -28,16 +30,17 @@ use Rattle.frame_rules.specs.declared.plan.Plan.{Plan}
 use Rattle.frame_rules.specs.Plans.{noLesson, noTests, damagedPlan, lessonPlan, dropPlan, offerPlan}
 use Rattle.frame_rules.specs.Stored.{storedHeader}
 use Rattle.frame_rules.specs.Candidates.{numbersOf}
-use Rattle.frame_rules.specs.Room.{leftMask, ringsReady, roomMet, metRoom, offered}
+use Rattle.frame_rules.specs.Room.{leftMask, ringsReady, roomMet, metRoom, planOffered}
 use Rattle.frame_in.specs.Carried.{countTest, countedTests, lessonBy, Ready}
 use Rattle.frame_in.specs.Met.{met}
-use Rattle.frame_in.specs.Call.{verdictOf, outcomeFor, isLearned, learnedIn}
+use Rattle.frame_in.specs.Call.{factsIn, learnedIn}
 use Rattle.frame_in.specs.Counting.{counted}
 use Rattle.frame_in.specs.Judged.{Lent, Judged}
+use Rattle.frame_in.proofs.Facts.{facts-room}
 use Rattle.frame_in.proofs.Counts.{tests-counted, left-is, none-is}
 use Rattle.frame_rules.proofs.RoomOutcomes.{none-left, room-damaged, room-none, room-enough, rings-damaged}
 use Rattle.frame_in.proofs.Joins.{enough, no-room}
-use Rattle.frame_in.proofs.Verdicts.{not-zero, dropped-carried, queued-carried}
+use Rattle.frame_in.proofs.Outcomes.{not-zero, dropped-carried, queued-carried}
 
 reason-small : (r : Reason) → reasonNumber r < 32
 unfolding reasonNumber
@@ -64,24 +67,28 @@ onRoom NoRoom a b c = b refl
 onRoom Enough a b c = c refl
 
 -- what is to be learned, and where
-pub record Taught (links addresses frame : List ℕ) (port : ℕ) (lesson : Lesson) (notLearned : Bool) : Type 0 where
+pub record Taught (links addresses frame : List ℕ) (port : ℕ) (lesson : Lesson) : Type 0 where
   pub key-small : lesson .key < 2 ^ 52
   pub destination-there : placeOf (lesson .destination) < 4112
   pub source-there : placeOf (lesson .source) < 4112
-  pub lesson-is : lessonBy lesson port addresses ≡ (notLearned, learnedIn links addresses port frame)
+  pub lesson-is : lessonBy lesson port addresses
+      ≡ (isNotLearned (factsIn links addresses port frame) (tableOf addresses), learnedIn links addresses port frame)
 
 module _ (links addresses frame : List ℕ) (n port : ℕ) (lent : Lent links addresses n port) where
+  abbrev f : Facts
+  f = factsIn links addresses port frame
+
   pub damaged-judged : met links addresses port frame ≡ true → Judged links addresses frame n port damagedPlan
   damaged-judged h = record { damage = sym h; right = λ e. absurd (true≢false e) }
 
-  pub nothing-taught : isLearned (settingsOf links) port frame ≡ false → Taught links addresses frame port noLesson false
-  unfolding lessonBy learnedIn
+  pub nothing-taught : learns f ≡ false → Taught links addresses frame port noLesson
+  unfolding lessonBy learnedIn isNotLearned
   nothing-taught h = record { key-small = omega arith; destination-there = omega arith; source-there = omega arith; lesson-is = rw h }
 
   -- a plan that drops is ready whatever memory holds
-  drop-ready : (plan : Plan) (r : Reason) (notLearned : Bool) → plan .reason ≡ reasonNumber r → plan .queue ≤ 3 → Taught links addresses frame port (plan .lesson) notLearned
+  drop-ready : (plan : Plan) (r : Reason) → plan .reason ≡ reasonNumber r → plan .queue ≤ 3 → Taught links addresses frame port (plan .lesson)
       → (memory : List ℕ) → length memory ≡ cellBytes n → Ready n memory links frame plan
-  drop-ready plan r notLearned e q t memory size =
+  drop-ready plan r e q t memory size =
       record {
         most = lent .most;
         links-long = omega (arith, lent .long);
@@ -96,146 +103,127 @@ module _ (links addresses frame : List ℕ) (n port : ℕ) (lent : Lent links ad
         rings = λ z. absurd (never-zero r (sym e ∙ z));
       }
 
-  module _ (v : Verdict) (verdict-is : verdictOf links addresses port frame ≡ v) where
-    -- ---- dropped before a candidate is tested
+  drop-outcome : (r : Reason) → reasonFor f ≡ some r → outcomeOf f ≡ drops r
+  unfolding outcomeOf outcomeBy
+  drop-outcome r e = rw e
 
-    drop-outcome : (r : Reason) → v .fate ≡ drop r → outcomeFor links v ≡ drops r
-    unfolding outcomeFor outcomeOf
-    drop-outcome r e = rw e
+  -- ---- dropped before a candidate is tested
 
-    no-tests : (r : Reason) → v .fate ≡ drop r → (l : List ℕ) → counted (fateEvents (v .fate)) l ≡ countedTests noTests l
-    unfolding fateEvents counted countedTests countTest
-    no-tests r e l = rw e
+  no-tests : countsTests f ≡ false → (l : List ℕ) → counted (candidateEvents f) l ≡ countedTests noTests l
+  unfolding candidateEvents counted countedTests countTest
+  no-tests e l = rw e
 
-    pub lesson-judged : (r : Reason) (lesson : Lesson) → met links addresses port frame ≡ false → v .fate ≡ drop r
-        → Taught links addresses frame port lesson (v .notLearned) → Judged links addresses frame n port (lessonPlan (reasonNumber r) lesson)
-    lesson-judged r lesson m e t =
+  pub lesson-judged : (r : Reason) (lesson : Lesson) → met links addresses port frame ≡ false → reasonFor f ≡ some r → countsTests f ≡ false
+      → Taught links addresses frame port lesson → Judged links addresses frame n port (lessonPlan (reasonNumber r) lesson)
+  lesson-judged r lesson m e c t =
+      record {
+        damage = sym m;
+        right = λ _. record {
+          ready = drop-ready (lessonPlan (reasonNumber r) lesson) r refl (omega arith) t;
+          carried = dropped-carried links addresses frame n port (lessonPlan (reasonNumber r) lesson) (no-tests c) (t .lesson-is) r (drop-outcome r e) refl refl;
+        };
+      }
+
+  -- before the look-up too
+  pub drop-judged : (r : Reason) (k : ℕ) → k ≡ reasonNumber r → met links addresses port frame ≡ false → reasonFor f ≡ some r
+      → (learns f ≡ false) × (countsTests f ≡ false) → Judged links addresses frame n port (dropPlan k)
+  drop-judged r k e m o s =
+      subst (λ (x : ℕ). Judged links addresses frame n port (dropPlan x)) (sym e)
+      (lesson-judged r noLesson m o (s .1) (nothing-taught (s .0)))
+
+  -- ---- offered
+
+  module _ (tested : countsTests f ≡ true) (reason-is : reasonFor f ≡ first (rowsOf queueing f)) (lesson : Lesson) (o : Offer)
+      (taught : Taught links addresses frame port lesson) (numbers-are : o .tests ≡ numbersOf (f .test)) (queue-is : o .queue ≡ f .queue)
+      (queue-small : o .queue ≤ 3) (header-is : o .header ≡ storedHeader (frameOf f)) (longest : length frame ≤ 4083)
+      (met-is : met links addresses port frame ≡ metRoom n links (length frame) (o .queue) (o .tests)) where
+    offer-tests : (l : List ℕ) → counted (candidateEvents f) l ≡ countedTests (o .tests) l
+    unfolding candidateEvents
+    offer-tests l = rw (tested, numbers-are) (tests-counted (f .test) l)
+
+    isNone-is : isNone (portsLeft (f .test)) ≡ eqb (leftMask (o .tests)) 0
+    isNone-is = none-is (portsLeft (f .test)) ∙ ap (λ (m : ℕ). eqb m 0) (left-is (f .test) ∙ ap leftMask (sym numbers-are))
+
+    reason-none : eqb (leftMask (o .tests)) 0 ≡ true → reasonFor f ≡ some noPortLeft
+    unfolding rowsOf linesIn sift partNumber reasonTable first
+    reason-none e = reason-is ∙ rw (isNone-is ∙ e)
+
+    reason-full : eqb (leftMask (o .tests)) 0 ≡ false → ltb (freeCount links) (cells (length frame)) ≡ true → reasonFor f ≡ some noRoom
+    unfolding rowsOf linesIn sift partNumber reasonTable first
+    reason-full e h = reason-is ∙ rw (isNone-is ∙ e, facts-room links addresses frame port ∙ h)
+
+    outcome-queued : eqb (leftMask (o .tests)) 0 ≡ false → ltb (freeCount links) (cells (length frame)) ≡ false → outcomeOf f ≡ queues (frameOf f) (portsLeft (f .test))
+    unfolding outcomeOf outcomeBy rowsOf linesIn sift partNumber reasonTable first
+    outcome-queued e h = rw (reason-is, isNone-is ∙ e, facts-room links addresses frame port ∙ h)
+
+    drop-offer : (r : Reason) → reasonFor f ≡ some r → met links addresses port frame ≡ false → Judged links addresses frame n port (offerPlan (reasonNumber r) lesson o 0)
+    drop-offer r e m =
         record {
           damage = sym m;
           right = λ _. record {
-            ready = drop-ready (lessonPlan (reasonNumber r) lesson) r (v .notLearned) refl (omega arith) t;
-            carried = dropped-carried links addresses frame n port (lessonPlan (reasonNumber r) lesson) v verdict-is (no-tests r e) (t .lesson-is) r (drop-outcome r e) refl refl;
+            ready = drop-ready (offerPlan (reasonNumber r) lesson o 0) r refl queue-small taught;
+            carried = dropped-carried links addresses frame n port (offerPlan (reasonNumber r) lesson o 0) offer-tests (taught .lesson-is) r (drop-outcome r e) refl refl;
           };
         }
 
-    -- ---- offered
+    twelve : eqb (leftMask (o .tests)) 0 ≡ true → Judged links addresses frame n port (offerPlan 12 lesson o 0)
+    unfolding reasonNumber metRoom
+    twelve e = drop-offer noPortLeft (reason-none e) (met-is ∙ rw e)
 
-    module _ (f : Frame) (test : ℕ → Test) (fate-is : v .fate ≡ offer f test) (lesson : Lesson) (o : Offer) (taught : Taught links addresses frame port lesson (v .notLearned))
-        (numbers-are : o .tests ≡ numbersOf test) (queue-is : o .queue ≡ f .queue) (queue-small : o .queue ≤ 3) (header-is : o .header ≡ storedHeader f)
-        (bytes-are : f .packet .bytes ≡ frame) (longest : length frame ≤ 4083)
-        (met-is : met links addresses port frame ≡ metRoom n links (length frame) (o .queue) (o .tests)) where
-      offer-tests : (l : List ℕ) → counted (fateEvents (v .fate)) l ≡ countedTests (o .tests) l
-      unfolding fateEvents
-      offer-tests l = rw (fate-is, numbers-are) (tests-counted test l)
+    module _ (e : eqb (leftMask (o .tests)) 0 ≡ false) where
+      met-room : (room : Room) → roomFor n (cells (length frame)) links ≡ room → met links addresses port frame ≡ roomMet room (ringsReady n links (o .queue) (o .tests))
+      unfolding metRoom
+      met-room room h = met-is ∙ rw (e, h)
 
-      isNone-is : isNone (portsLeft test) ≡ eqb (leftMask (o .tests)) 0
-      isNone-is = none-is (portsLeft test) ∙ ap (λ (m : ℕ). eqb m 0) (left-is test ∙ ap leftMask (sym numbers-are))
+      thirteen : roomFor n (cells (length frame)) links ≡ NoRoom → Judged links addresses frame n port (offerPlan 13 lesson o 0)
+      unfolding reasonNumber roomMet
+      thirteen h = drop-offer noRoom (reason-full e (no-room n (cells (length frame)) links h)) (met-room NoRoom h)
 
-      size-is : size f ≡ cells (length frame)
-      unfolding size
-      size-is = ap (λ (b : List ℕ). cells (length b)) bytes-are
-
-      outcome-is : outcomeFor links v ≡ outcomeBy (first (roomRules (ltb (freeCount links) (cells (length frame))) (portsLeft test))) f (portsLeft test)
-      unfolding outcomeFor outcomeOf
-      outcome-is = rw (fate-is, size-is)
-
-      outcome-none : eqb (leftMask (o .tests)) 0 ≡ true → outcomeFor links v ≡ drops noPortLeft
-      unfolding outcomeBy roomRules first
-      outcome-none e = outcome-is ∙ rw (isNone-is ∙ e)
-
-      outcome-full : eqb (leftMask (o .tests)) 0 ≡ false → ltb (freeCount links) (cells (length frame)) ≡ true → outcomeFor links v ≡ drops noRoom
-      unfolding outcomeBy roomRules first
-      outcome-full e h = outcome-is ∙ rw (isNone-is ∙ e, h)
-
-      outcome-queued : eqb (leftMask (o .tests)) 0 ≡ false → ltb (freeCount links) (cells (length frame)) ≡ false → outcomeFor links v ≡ queues f (portsLeft test)
-      unfolding outcomeBy roomRules first
-      outcome-queued e h = outcome-is ∙ rw (isNone-is ∙ e, h)
-
-      drop-offer : (r : Reason) → outcomeFor links v ≡ drops r → met links addresses port frame ≡ false → Judged links addresses frame n port (offerPlan (reasonNumber r) lesson o 0)
-      drop-offer r e m =
+      queued-ready : roomFor n (cells (length frame)) links ≡ Enough → ringsReady n links (o .queue) (o .tests) ≡ true → (memory : List ℕ) → length memory ≡ cellBytes n
+          → Ready n memory links frame (offerPlan 0 lesson o (leftMask (o .tests)))
+      queued-ready h r memory size =
           record {
-            damage = sym m;
+            most = lent .most;
+            links-long = omega (arith, lent .long);
+            cells-long = omega arith;
+            reason = omega arith;
+            key = taught .key-small;
+            destination = taught .destination-there;
+            source = taught .source-there;
+            queue = queue-small;
+            longest = λ z. longest;
+            room = λ z. h;
+            rings = λ z. r;
+          }
+
+      queued-judged : roomFor n (cells (length frame)) links ≡ Enough → ringsReady n links (o .queue) (o .tests) ≡ true
+          → Judged links addresses frame n port (offerPlan 0 lesson o (leftMask (o .tests)))
+      unfolding roomMet
+      queued-judged h r =
+          record {
+            damage = sym (met-room Enough h ∙ ap not r);
             right = λ _. record {
-              ready = drop-ready (offerPlan (reasonNumber r) lesson o 0) r (v .notLearned) refl queue-small taught;
-              carried = dropped-carried links addresses frame n port (offerPlan (reasonNumber r) lesson o 0) v verdict-is offer-tests (taught .lesson-is) r e refl refl;
+              ready = queued-ready h r;
+              carried = queued-carried links addresses frame n port (offerPlan 0 lesson o (leftMask (o .tests))) offer-tests (taught .lesson-is)
+                  (outcome-queued e (enough n (cells (length frame)) links h .few)) refl numbers-are refl queue-is header-is (lent .count);
             };
           }
 
-      twelve : eqb (leftMask (o .tests)) 0 ≡ true → Judged links addresses frame n port (offerPlan 12 lesson o 0)
-      unfolding reasonNumber metRoom
-      twelve e = drop-offer noPortLeft (outcome-none e) (met-is ∙ rw e)
+      damaged-room : roomFor n (cells (length frame)) links ≡ Damaged → Judged links addresses frame n port damagedPlan
+      unfolding roomMet
+      damaged-room h = damaged-judged (met-room Damaged h)
 
-      module _ (e : eqb (leftMask (o .tests)) 0 ≡ false) where
-        met-room : (room : Room) → roomFor n (cells (length frame)) links ≡ room → met links addresses port frame ≡ roomMet room (ringsReady n links (o .queue) (o .tests))
-        unfolding metRoom
-        met-room room h = met-is ∙ rw (e, h)
+      damaged-rings : roomFor n (cells (length frame)) links ≡ Enough → ringsReady n links (o .queue) (o .tests) ≡ false → Judged links addresses frame n port damagedPlan
+      unfolding roomMet
+      damaged-rings h r = damaged-judged (met-room Enough h ∙ ap not r)
 
-        thirteen : roomFor n (cells (length frame)) links ≡ NoRoom → Judged links addresses frame n port (offerPlan 13 lesson o 0)
-        unfolding reasonNumber roomMet
-        thirteen h = drop-offer noRoom (outcome-full e (no-room n (cells (length frame)) links h)) (met-room NoRoom h)
-
-        queued-ready : roomFor n (cells (length frame)) links ≡ Enough → ringsReady n links (o .queue) (o .tests) ≡ true → (memory : List ℕ) → length memory ≡ cellBytes n
-            → Ready n memory links frame (offerPlan 0 lesson o (leftMask (o .tests)))
-        queued-ready h r memory size =
-            record {
-              most = lent .most;
-              links-long = omega (arith, lent .long);
-              cells-long = omega arith;
-              reason = omega arith;
-              key = taught .key-small;
-              destination = taught .destination-there;
-              source = taught .source-there;
-              queue = queue-small;
-              longest = λ z. longest;
-              room = λ z. h;
-              rings = λ z. r;
-            }
-
-        queued-judged : roomFor n (cells (length frame)) links ≡ Enough → ringsReady n links (o .queue) (o .tests) ≡ true
-            → Judged links addresses frame n port (offerPlan 0 lesson o (leftMask (o .tests)))
-        unfolding roomMet
-        queued-judged h r =
-            record {
-              damage = sym (met-room Enough h ∙ ap not r);
-              right = λ _. record {
-                ready = queued-ready h r;
-                carried = queued-carried links addresses frame n port (offerPlan 0 lesson o (leftMask (o .tests))) v verdict-is offer-tests (taught .lesson-is) f test
-                    (outcome-queued e (enough n (cells (length frame)) links h .few)) refl numbers-are refl queue-is header-is bytes-are (lent .count);
-              };
-            }
-
-        damaged-room : roomFor n (cells (length frame)) links ≡ Damaged → Judged links addresses frame n port damagedPlan
-        unfolding roomMet
-        damaged-room h = damaged-judged (met-room Damaged h)
-
-        damaged-rings : roomFor n (cells (length frame)) links ≡ Enough → ringsReady n links (o .queue) (o .tests) ≡ false → Judged links addresses frame n port damagedPlan
-        unfolding roomMet
-        damaged-rings h r = damaged-judged (met-room Enough h ∙ ap not r)
-
-      pub offer-judged : Judged links addresses frame n port (offered n links (length frame) lesson o)
-      offer-judged =
-          on (eqb (leftMask (o .tests)) 0)
-          (λ e. subst (Judged links addresses frame n port) (none-left n links (length frame) lesson o (eqb-true _ _ e)) (twelve e))
-          (λ e. onRoom (roomFor n (cells (length frame)) links)
-          (λ h. subst (Judged links addresses frame n port) (room-damaged n links (length frame) lesson o (eqb-false _ _ e) h) (damaged-room e h))
-          (λ h. subst (Judged links addresses frame n port) (room-none n links (length frame) lesson o (eqb-false _ _ e) h) (thirteen e h))
-          (λ h. on (ringsReady n links (o .queue) (o .tests))
-          (λ r. subst (Judged links addresses frame n port) (room-enough n links (length frame) lesson o (eqb-false _ _ e) h r) (queued-judged e h r))
-          (λ r. subst (Judged links addresses frame n port) (rings-damaged n links (length frame) lesson o (eqb-false _ _ e) h r) (damaged-rings e h r))))
-
-  -- ---- dropped before the look-up
-
-  drop-fate : (r : Reason) → dropped r (tableOf addresses) .fate ≡ drop r
-  unfolding dropped
-  drop-fate r = refl
-
-  drop-learns : (r : Reason) → dropped r (tableOf addresses) .notLearned ≡ false
-  unfolding dropped
-  drop-learns r = refl
-
-  pub drop-judged : (r : Reason) (k : ℕ) → k ≡ reasonNumber r → met links addresses port frame ≡ false → verdictOf links addresses port frame ≡ dropped r (tableOf addresses)
-      → isLearned (settingsOf links) port frame ≡ false → Judged links addresses frame n port (dropPlan k)
-  drop-judged r k e m d l =
-      subst (λ (x : ℕ). Judged links addresses frame n port (dropPlan x)) (sym e)
-      (lesson-judged (dropped r (tableOf addresses)) d r noLesson m (drop-fate r)
-      (subst (Taught links addresses frame port noLesson) (sym (drop-learns r)) (nothing-taught l)))
+    pub offer-judged : Judged links addresses frame n port (planOffered n links (length frame) lesson o)
+    offer-judged =
+        on (eqb (leftMask (o .tests)) 0)
+        (λ e. subst (Judged links addresses frame n port) (none-left n links (length frame) lesson o (eqb-true _ _ e)) (twelve e))
+        (λ e. onRoom (roomFor n (cells (length frame)) links)
+        (λ h. subst (Judged links addresses frame n port) (room-damaged n links (length frame) lesson o (eqb-false _ _ e) h) (damaged-room e h))
+        (λ h. subst (Judged links addresses frame n port) (room-none n links (length frame) lesson o (eqb-false _ _ e) h) (thirteen e h))
+        (λ h. on (ringsReady n links (o .queue) (o .tests))
+        (λ r. subst (Judged links addresses frame n port) (room-enough n links (length frame) lesson o (eqb-false _ _ e) h r) (queued-judged e h r))
+        (λ r. subst (Judged links addresses frame n port) (rings-damaged n links (length frame) lesson o (eqb-false _ _ e) h r) (damaged-rings e h r))))

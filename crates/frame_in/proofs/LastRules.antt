@@ -1,28 +1,32 @@
 -- Rules 10 to 13 of an ordinary frame. Assumes nothing.
 use Prim.Native.Nat.{ℕ}
-use mathlib.Core.Path.{_≡_, refl, sym, ap, _∙_}
+use mathlib.Core.Path.{_≡_, sym, ap, _∙_}
 use mathlib.Core.Bool.{Bool, true, false, _||_, not}
 use mathlib.Core.List.{List}
+use mathlib.Core.Option.{none, some}
 use native.Mathlib.Omega.{arith}
 use borrow.Author.Tests.{eqb-true, ne-eqb, not-false}
 use lib.Dec.{eqb}
 use lib.ListN.{length}
 use Rattle.rules.specs.Lines.{first}
-use Rattle.rules.specs.Reasons.{portLearning, noCandidate, reasonNumber}
+use Rattle.rules.specs.Reasons.{Reason, portLearning, noCandidate, reasonNumber}
+use Rattle.rules.specs.Choice.{sift}
 use Rattle.rules.specs.PortTests.{anyCandidate}
-use Rattle.rules.specs.Arrival.{drop, offer, Verdict, testFor, candidateRules, fateBy, vlanFrame, vlanVerdict}
+use Rattle.rules.specs.Facts.{Facts}
+use Rattle.rules.specs.ReasonTable.{choosing, partNumber, reasonTable, linesIn, rowsOf}
+use Rattle.rules.specs.Outcomes.{countsTests}
 use Rattle.rules.proofs.Choice.{or-left, or-right}
-use Rattle.settings.specs.SettingsOf.{settingsOf}
-use Rattle.addresses.specs.Numbers.{tableOf}
+use Rattle.rules.proofs.Parts.{reason-choosing, reason-queueing, choosing-stops, counts-then}
 use Rattle.frame_rules.specs.declared.plan.Lesson.{Lesson}
 use Rattle.frame_rules.specs.declared.plan.Tests.{Tests}
 use Rattle.frame_rules.specs.declared.plan.Offer.{Offer}
 use Rattle.frame_rules.specs.Plans.{damagedPlan, lessonPlan}
 use Rattle.frame_rules.specs.Candidates.{anyDamaged, anyCandidateIn}
-use Rattle.frame_rules.specs.Room.{leftMask, metRoom, offered}
+use Rattle.frame_rules.specs.Room.{leftMask, metRoom, planOffered}
 use Rattle.frame_in.specs.Met.{metTests, met}
+use Rattle.frame_in.specs.Call.{factsIn}
 use Rattle.frame_in.specs.Judged.{Judged}
-use Rattle.frame_in.specs.Stages.{packet, Tested}
+use Rattle.frame_in.specs.Stages.{Tested}
 use Rattle.frame_in.proofs.Counts.{any-candidate}
 use Rattle.frame_in.proofs.Judgements.{Taught, damaged-judged, lesson-judged, offer-judged}
 
@@ -48,28 +52,33 @@ none-left-mask t h =
 
 module _ (links addresses frame : List ℕ) (n port : ℕ) where
   module _ (learning : Bool) (l : Lesson) (o : Offer) (t : Tested links addresses frame n port learning l o) where
-    abbrev verdict : Verdict
-    verdict = vlanVerdict (settingsOf links) (tableOf addresses) port (packet frame)
+    abbrev f : Facts
+    f = factsIn links addresses port frame
 
-    taught : Taught links addresses frame port l (verdict .notLearned)
+    taught : Taught links addresses frame port l
     taught = record { key-small = t .key-small; destination-there = t .destination-there; source-there = t .source-there; lesson-is = t .lesson-is }
 
     pub tests-damaged : anyDamaged (o .tests) ≡ true → Judged links addresses frame n port damagedPlan
     unfolding metTests
     tests-damaged e = damaged-judged links addresses frame n port (t .way .lent) (t .way .meets-is ∙ rw e)
 
+    -- 10 or 11 that was found
+    choosing-judged : (r : Reason) → met links addresses port frame ≡ false → first (rowsOf choosing f) ≡ some r → Judged links addresses frame n port (lessonPlan (reasonNumber r) l)
+    choosing-judged r m e =
+        lesson-judged links addresses frame n port (t .way .lent) r l m (reason-choosing f (t .way .read) (t .ordinary) (t .entered) r e) (choosing-stops f (t .ordinary) r e) taught
+
     module _ (whole : anyDamaged (o .tests) ≡ false) where
       learning-met : learning ≡ true → met links addresses port frame ≡ false
       unfolding metTests
       learning-met e = t .way .meets-is ∙ rw (whole, sym (t .learning-is) ∙ e)
 
-      learning-fate : learning ≡ true → verdict .fate ≡ drop portLearning
-      unfolding vlanVerdict fateBy candidateRules first
-      learning-fate e = rw (sym (t .learning-is) ∙ e)
+      rule-ten : learning ≡ true → first (rowsOf choosing f) ≡ some portLearning
+      unfolding rowsOf linesIn sift partNumber reasonTable first
+      rule-ten e = rw (sym (t .learning-is) ∙ e)
 
       pub ten : learning ≡ true → Judged links addresses frame n port (lessonPlan 10 l)
       unfolding reasonNumber
-      ten e = lesson-judged links addresses frame n port (t .way .lent) verdict (t .way .verdict-is) portLearning l (learning-met e) (learning-fate e) taught
+      ten e = choosing-judged portLearning (learning-met e) (rule-ten e)
 
       module _ (not-learning : learning ≡ false) where
         room-met : met links addresses port frame ≡ metRoom n links (length frame) (o .queue) (o .tests)
@@ -79,12 +88,12 @@ module _ (links addresses frame : List ℕ) (n port : ℕ) where
             ∙ rw (whole, sym (t .learning-is) ∙ not-learning)
             (ap (λ (c : ℕ). metRoom c links (length frame) (o .queue) (o .tests)) (sym (t .way .lent .count)))
 
-        candidates-are : anyCandidate (testFor (settingsOf links) (tableOf addresses) port frame) ≡ anyCandidateIn (o .tests)
-        candidates-are = any-candidate (testFor (settingsOf links) (tableOf addresses) port frame) ∙ ap anyCandidateIn (sym (t .tests-are whole))
+        candidates-are : anyCandidate (f .test) ≡ anyCandidateIn (o .tests)
+        candidates-are = any-candidate (f .test) ∙ ap anyCandidateIn (sym (t .tests-are whole))
 
-        eleven-fate : anyCandidateIn (o .tests) ≡ false → verdict .fate ≡ drop noCandidate
-        unfolding vlanVerdict fateBy candidateRules first
-        eleven-fate e = rw (sym (t .learning-is) ∙ not-learning, candidates-are ∙ e)
+        rule-eleven : anyCandidateIn (o .tests) ≡ false → first (rowsOf choosing f) ≡ some noCandidate
+        unfolding rowsOf linesIn sift partNumber reasonTable first
+        rule-eleven e = rw (sym (t .learning-is) ∙ not-learning, candidates-are ∙ e)
 
         eleven-met : anyCandidateIn (o .tests) ≡ false → met links addresses port frame ≡ false
         unfolding metRoom
@@ -92,22 +101,16 @@ module _ (links addresses frame : List ℕ) (n port : ℕ) where
 
         pub eleven : anyCandidateIn (o .tests) ≡ false → Judged links addresses frame n port (lessonPlan 11 l)
         unfolding reasonNumber
-        eleven e = lesson-judged links addresses frame n port (t .way .lent) verdict (t .way .verdict-is) noCandidate l (eleven-met e) (eleven-fate e) taught
+        eleven e = choosing-judged noCandidate (eleven-met e) (rule-eleven e)
 
-        offer-fate : anyCandidateIn (o .tests) ≡ true → verdict .fate ≡ offer (vlanFrame (settingsOf links) port (packet frame)) (testFor (settingsOf links) (tableOf addresses) port frame)
-        unfolding vlanVerdict fateBy candidateRules first
-        offer-fate e = rw (sym (t .learning-is) ∙ not-learning, candidates-are ∙ e)
+        chosen : anyCandidateIn (o .tests) ≡ true → first (rowsOf choosing f) ≡ none
+        unfolding rowsOf linesIn sift partNumber reasonTable first
+        chosen e = rw (sym (t .learning-is) ∙ not-learning, candidates-are ∙ e)
 
-        offer-queue : o .queue ≡ vlanFrame (settingsOf links) port (packet frame) .queue
-        unfolding vlanFrame
-        offer-queue = t .queue-is
+        counts : anyCandidateIn (o .tests) ≡ true → countsTests f ≡ true
+        counts e = counts-then f (record { past = record { read = t .way .read; entered = λ _. t .entered }; chosen = λ _. chosen e })
 
-        offer-bytes : vlanFrame (settingsOf links) port (packet frame) .packet .bytes ≡ frame
-        unfolding vlanFrame
-        offer-bytes = refl
-
-        pub tested-offered : anyCandidateIn (o .tests) ≡ true → Judged links addresses frame n port (offered n links (length frame) l o)
+        pub tested-offered : anyCandidateIn (o .tests) ≡ true → Judged links addresses frame n port (planOffered n links (length frame) l o)
         tested-offered e =
-            offer-judged links addresses frame n port (t .way .lent) verdict (t .way .verdict-is) (vlanFrame (settingsOf links) port (packet frame))
-            (testFor (settingsOf links) (tableOf addresses) port frame) (offer-fate e) l o taught (t .tests-are whole) offer-queue (t .queue-small) (t .header-is) offer-bytes
-            (t .way .longest) room-met
+            offer-judged links addresses frame n port (t .way .lent) (counts e) (reason-queueing f (t .way .read) (t .ordinary) (t .entered) (chosen e)) l o taught
+            (t .tests-are whole) (t .queue-is) (t .queue-small) (t .header-is) (t .way .longest) room-met

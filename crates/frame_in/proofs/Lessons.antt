@@ -9,10 +9,11 @@ use borrow.Author.Tests.{ne-eqb}
 use lib.Dec.{eqb}
 use lib.ListN.{length}
 use Rattle.rules.specs.Tags.{Bytes, isGroup, addressAt, destination, source}
-use Rattle.rules.specs.Settings.{Settings}
-use Rattle.rules.specs.Addresses.{Found as Match, at, nowhere, key, find, emptyFor, mark, learn, Learned}
+use Rattle.rules.specs.Tables.{Found as Match, at, nowhere}
+use Rattle.rules.specs.Addresses.{Entry, Table, LookUp as RuleLookUp, key, find, emptyFor, group, answered as ruleAnswered, lookUp as ruleLookUp, afterLookUp, learningOf, isNoPlace, learnBy, learn}
 use Rattle.rules.specs.PortTests.{isChosen}
-use Rattle.rules.specs.Arrival.{vlanFor, lookUp as ruleLookUp, lesson}
+use Rattle.rules.specs.Facts.{Facts}
+use Rattle.rules.specs.Outcomes.{learningFor}
 use Rattle.rules.proofs.Choice.{on, eqb-sym}
 use Rattle.addresses.specs.Numbers.{tableOf}
 use Rattle.addresses.specs.Search.{answered, lookUp, placeOf, damaged}
@@ -25,7 +26,8 @@ use Rattle.addresses.proofs.Frames.{frame-theorems}
 use Rattle.frame_rules.specs.declared.plan.Lesson.{Lesson}
 use Rattle.frame_rules.specs.Candidates.{destinationLookUp, chosenPort}
 use Rattle.frame_in.specs.Carried.{learnedLesson, lessonBy}
-use Rattle.frame_in.specs.Call.{lessonIn}
+use Rattle.frame_in.specs.Call.{factsIn, lessonIn}
+use Rattle.frame_in.proofs.Facts.{facts-port, facts-source, facts-look-up, facts-chosen}
 
 pub address-below : (bytes : List ℕ) (i : ℕ) → Bytes bytes → addressAt bytes i < 2 ^ 48
 unfolding addressAt
@@ -33,48 +35,69 @@ address-below bytes i each = omega (arith, each i, each (i + 1), each (i + 2), e
 
 -- ---- the ports chosen
 
-chosen-by : (m : List ℕ) (k : ℕ) (found : Match) (empty : Option ℕ) → lookUp m k ≡ answered found empty → (r : ℕ)
-    → isChosen found r ≡ (eqb (chosenPort (lookUp m k)) 5 || eqb (chosenPort (lookUp m k)) r)
-unfolding isChosen chosenPort answered
+chosen-by : (m : List ℕ) (k : ℕ) (found : Match Entry) (empty : Option ℕ) → lookUp m k ≡ answered found empty → (r : ℕ)
+    → isChosen (ruleAnswered found) r ≡ (eqb (chosenPort (lookUp m k)) 5 || eqb (chosenPort (lookUp m k)) r)
+unfolding isChosen chosenPort answered ruleAnswered
 chosen-by m k nowhere none e r = rw e
 chosen-by m k nowhere (some i) e r = rw e
 chosen-by m k (at i x) empty e r =
     let small = port-inside m k (x .port) i e in
     rw e (rw (ne-eqb (x .port) 5 (λ q. omega arith)) (eqb-sym r (x .port)))
 
-module _ (s : Settings) (m : List ℕ) (port : ℕ) (frame : List ℕ) (gid : ℕ) (gid-is : vlanFor s port frame .gid ≡ gid)
+-- `m`: address memory
+module _ (links m frame : List ℕ) (port gid : ℕ) (gid-is : factsIn links m port frame .gid ≡ gid)
     (whole : damaged (destinationLookUp m gid (destination frame)) ≡ false) where
-  group-found : isGroup (destination frame) ≡ true → ruleLookUp s (tableOf m) port frame ≡ nowhere
-  unfolding ruleLookUp
-  group-found e = rw e
+  abbrev f : Facts
+  f = factsIn links m port frame
 
-  single-found : isGroup (destination frame) ≡ false → ruleLookUp s (tableOf m) port frame ≡ find (tableOf m) (key gid (destination frame))
+  -- the two keys
+  abbrev there : ℕ
+  there = key gid (destination frame)
+
+  abbrev own : ℕ
+  own = key gid (source frame)
+
+  look-up-at : f .lookUp ≡ ruleLookUp (tableOf m) (isGroup (destination frame)) there
+  look-up-at = facts-look-up links m frame port ∙ ap (λ (g : ℕ). ruleLookUp (tableOf m) (isGroup (destination frame)) (key g (destination frame))) gid-is
+
+  source-at : f .sourceKey ≡ own
+  source-at = facts-source links m frame port ∙ ap (λ (g : ℕ). key g (source frame)) gid-is
+
+  group-found : isGroup (destination frame) ≡ true → f .lookUp ≡ group
   unfolding ruleLookUp
-  single-found e = rw (e, gid-is)
+  group-found e = look-up-at ∙ rw e
+
+  single-found : isGroup (destination frame) ≡ false → f .lookUp ≡ ruleLookUp (tableOf m) false there
+  single-found e = look-up-at ∙ ap (λ (b : Bool). ruleLookUp (tableOf m) b there) e
 
   group-look-up : isGroup (destination frame) ≡ true → destinationLookUp m gid (destination frame) ≡ Full
   unfolding destinationLookUp
   group-look-up e = rw e
 
-  single-look-up : isGroup (destination frame) ≡ false → destinationLookUp m gid (destination frame) ≡ lookUp m (key gid (destination frame))
+  single-look-up : isGroup (destination frame) ≡ false → destinationLookUp m gid (destination frame) ≡ lookUp m there
   unfolding destinationLookUp
   single-look-up e = rw e
 
-  single-whole : isGroup (destination frame) ≡ false → damaged (lookUp m (key gid (destination frame))) ≡ false
+  single-whole : isGroup (destination frame) ≡ false → damaged (lookUp m there) ≡ false
   single-whole e = ap damaged (sym (single-look-up e)) ∙ whole
 
-  group-chosen : (d : LookUp) (found : Match) → d ≡ Full → found ≡ nowhere → (r : ℕ) → isChosen found r ≡ (eqb (chosenPort d) 5 || eqb (chosenPort d) r)
+  group-chosen : (d : LookUp) (answer : RuleLookUp) → d ≡ Full → answer ≡ group → (r : ℕ) → isChosen answer r ≡ (eqb (chosenPort d) 5 || eqb (chosenPort d) r)
   unfolding isChosen chosenPort
-  group-chosen d found p q r = rw (p, q)
+  group-chosen d answer p q r = rw (p, q)
+
+  single-chosen : isGroup (destination frame) ≡ false → (r : ℕ) → isChosen (ruleLookUp (tableOf m) false there) r
+      ≡ (eqb (chosenPort (lookUp m there)) 5 || eqb (chosenPort (lookUp m there)) r)
+  unfolding ruleLookUp
+  single-chosen e r = chosen-by m there (find (tableOf m) there) (emptyFor (tableOf m) there) (look-up-finds m there (single-whole e)) r
 
   -- "a group address, or one not found, has all members as candidates; one found has its port"
-  pub chosen-is : (r : ℕ) → isChosen (ruleLookUp s (tableOf m) port frame) r
+  pub chosen-is : (r : ℕ) → f .chosen r
       ≡ (eqb (chosenPort (destinationLookUp m gid (destination frame))) 5 || eqb (chosenPort (destinationLookUp m gid (destination frame))) r)
   chosen-is r =
-      on (isGroup (destination frame))
-      (λ e. group-chosen (destinationLookUp m gid (destination frame)) (ruleLookUp s (tableOf m) port frame) (group-look-up e) (group-found e) r)
-      (λ e. rw (single-found e, single-look-up e)
-      (chosen-by m (key gid (destination frame)) (find (tableOf m) (key gid (destination frame))) (emptyFor (tableOf m) (key gid (destination frame))) (look-up-finds m (key gid (destination frame)) (single-whole e)) r))
+      ap (λ (c : ℕ → Bool). c r) (facts-chosen links m frame port)
+      ∙ on (isGroup (destination frame))
+      (λ e. group-chosen (destinationLookUp m gid (destination frame)) (f .lookUp) (group-look-up e) (group-found e) r)
+      (λ e. rw (single-found e, single-look-up e) (single-chosen e r))
 
   -- ---- learning
 
@@ -83,46 +106,53 @@ module _ (s : Settings) (m : List ℕ) (port : ℕ) (frame : List ℕ) (gid : �
     destination-place =
         on (isGroup (destination frame))
         (λ e. rw (group-look-up e) (omega arith))
-        (λ e. rw (single-look-up e) (place-inside m (key gid (destination frame))))
+        (λ e. rw (single-look-up e) (place-inside m there))
 
-    lesson-group : isGroup (destination frame) ≡ true → lessonIn m gid port frame ≡ learnedBy (lookUp m (key gid (source frame))) (key gid (source frame)) port m
+    lesson-group : isGroup (destination frame) ≡ true → lessonIn m gid port frame ≡ learnedBy (lookUp m own) own port m
     unfolding lessonIn markedBy
     lesson-group e = rw (group-look-up e)
 
-    lesson-single : isGroup (destination frame) ≡ false
-        → lessonIn m gid port frame ≡ learnedBy (lookUp m (key gid (source frame))) (key gid (source frame)) port (markedBy (lookUp m (key gid (destination frame))) m)
+    lesson-single : isGroup (destination frame) ≡ false → lessonIn m gid port frame ≡ learnedBy (lookUp m own) own port (markedBy (lookUp m there) m)
     unfolding lessonIn
     lesson-single e = rw (single-look-up e)
 
-    rule-group : isGroup (destination frame) ≡ true → lesson s (tableOf m) port frame ≡ learn (tableOf m) (key gid (source frame)) port
-    unfolding lesson mark
-    rule-group e = rw (group-found e, gid-is)
+    -- the table in which the source is learned
+    after-group : isGroup (destination frame) ≡ true → afterLookUp (f .lookUp) (tableOf m) ≡ tableOf m
+    unfolding afterLookUp
+    after-group e = rw (group-found e)
 
-    rule-single : isGroup (destination frame) ≡ false
-        → lesson s (tableOf m) port frame ≡ learn (mark (find (tableOf m) (key gid (destination frame))) (tableOf m)) (key gid (source frame)) port
-    unfolding lesson
-    rule-single e = rw (single-found e, gid-is)
+    after-single : isGroup (destination frame) ≡ false → afterLookUp (f .lookUp) (tableOf m) ≡ afterLookUp (ruleLookUp (tableOf m) false there) (tableOf m)
+    after-single e = ap (λ (l : RuleLookUp). afterLookUp l (tableOf m)) (single-found e)
 
-    module _ (sound : damaged (lookUp m (key gid (source frame))) ≡ false) where
-      -- "not learned" counts exactly where the rules' lesson finds no place
-      pub placed-is : lessonIn m gid port frame .0 ≡ lesson s (tableOf m) port frame .placed
+    no-place : (t : Table) → afterLookUp (f .lookUp) (tableOf m) ≡ t → not (isNoPlace (learningOf t own)) ≡ not (isNoPlace (learningFor f (tableOf m)))
+    unfolding learningFor
+    no-place t e = rw (e, source-at)
+
+    learned : (t : Table) → afterLookUp (f .lookUp) (tableOf m) ≡ t
+        → learn t own port ≡ learnBy (learningFor f (tableOf m)) (f .sourceKey) (f .port) (afterLookUp (f .lookUp) (tableOf m))
+    unfolding learn learningFor
+    learned t e = rw (e, source-at, facts-port links m frame port)
+
+    module _ (sound : damaged (lookUp m own) ≡ false) where
+      -- "not learned" counts exactly where the rules find no place
+      pub placed-is : lessonIn m gid port frame .0 ≡ not (isNoPlace (learningFor f (tableOf m)))
       placed-is =
           on (isGroup (destination frame))
-          (λ e. ap (λ (p : Bool × List ℕ). p .0) (lesson-group e) ∙ step-theorems m long (key gid (source frame)) sound .learn-placed port
-          ∙ ap (λ (l : Learned). l .placed) (sym (rule-group e)))
+          (λ e. ap (λ (p : Bool × List ℕ). p .0) (lesson-group e) ∙ step-theorems m long own sound .learn-placed port ∙ no-place _ (after-group e))
           (λ e. ap (λ (p : Bool × List ℕ). p .0) (lesson-single e)
-          ∙ frame-theorems m long (key gid (destination frame)) (key gid (source frame)) (single-whole e) sound port .placed-marked
-          ∙ ap (λ (l : Learned). l .placed) (sym (rule-single e)))
+          ∙ frame-theorems m long there own (single-whole e) sound port .placed-marked
+          ∙ no-place _ (after-single e))
 
       -- what address memory then says is the rules' table
-      pub table-is : key gid (source frame) < 2 ^ 52 → port ≤ 4 → tableOf (lessonIn m gid port frame .1) ≡ lesson s (tableOf m) port frame .table
-      table-is small there =
+      pub table-is : own < 2 ^ 52 → port ≤ 4
+          → tableOf (lessonIn m gid port frame .1) ≡ learnBy (learningFor f (tableOf m)) (f .sourceKey) (f .port) (afterLookUp (f .lookUp) (tableOf m))
+      table-is small port-there =
           on (isGroup (destination frame))
-          (λ e. ap (λ (p : Bool × List ℕ). tableOf (p .1)) (lesson-group e) ∙ step-theorems m long (key gid (source frame)) sound .learn-is port small there
-          ∙ ap (λ (l : Learned). l .table) (sym (rule-group e)))
+          (λ e. ap (λ (p : Bool × List ℕ). tableOf (p .1)) (lesson-group e) ∙ step-theorems m long own sound .learn-is port small port-there
+          ∙ learned _ (after-group e))
           (λ e. ap (λ (p : Bool × List ℕ). tableOf (p .1)) (lesson-single e)
-          ∙ frame-theorems m long (key gid (destination frame)) (key gid (source frame)) (single-whole e) sound port .learn-marked small there
-          ∙ ap (λ (l : Learned). l .table) (sym (rule-single e)))
+          ∙ frame-theorems m long there own (single-whole e) sound port .learn-marked small port-there
+          ∙ learned _ (after-single e))
 
 -- the lesson of the plan
 pub lesson-in : (lesson : Lesson) (port : ℕ) (m : List ℕ) (gid : ℕ) (frame : List ℕ) → lesson .learns ≡ true → lesson .source ≡ lookUp m (key gid (source frame))

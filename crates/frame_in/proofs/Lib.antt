@@ -1,6 +1,7 @@
+pub mod Facts
 pub mod Counts
 pub mod Carries
-pub mod Verdicts
+pub mod Outcomes
 pub mod Joins
 pub mod Judgements
 pub mod Lessons

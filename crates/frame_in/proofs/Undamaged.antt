@@ -19,7 +19,7 @@ use Rattle.rules.specs.Operations.{headerAt}
 use Rattle.rules.specs.Settings.{departs, isLearning, queuePcp}
 use Rattle.rules.specs.Addresses.{key}
 use Rattle.rules.specs.Arguments.{VlanNumbers, bit, flag, stateOf, isVid, portOf, vlanInRange, operationInRange}
-use Rattle.rules.specs.Arrival.{isBpdu, vidOf, queueFor, earlyRules}
+use Rattle.rules.specs.ReasonTable.{reading, rowsOf}
 use Rattle.rules.proofs.Choice.{on, and-left}
 use Rattle.rules.proofs.Tags.{decoded-are-tags}
 use Rattle.layout.specs.Places.{bpduWord, portWord, queueSwitchWord}
@@ -41,8 +41,10 @@ use Rattle.frame_rules.specs.declared.plan.Tests.{Tests}
 use Rattle.frame_rules.specs.Candidates.{destinationLookUp, chosenPort, isCandidateAt, switchNumber, candidateNumber, portNumber, numbersAt, bpduNumbers, anyDamaged}
 use Rattle.frame_rules.specs.Room.{leftMask, ringReady, ringsReady, roomMet, metRoom}
 use Rattle.frame_in.specs.Met.{unlessDropped, metTests, metMember, metEntry, metTable, metFrame, metBpdu, metPort, met}
+use Rattle.frame_in.specs.Facts.{factsIn}
 use Rattle.frame_in.specs.InRange.{InRange}
 use Rattle.frame_rules.proofs.TestNumbers.{port-is}
+use Rattle.frame_in.proofs.Facts.{ordinary-queue, bpdu-queue}
 
 pass-over : (o : Option Reason) (m : Bool) → m ≡ false → unlessDropped o m ≡ false
 unfolding unlessDropped
@@ -125,9 +127,12 @@ module _ (links addresses : List ℕ) (good : InRange links addresses) where
     unfolding settingsOf queuesOf
     queue-in pcp h = rw (lt-ltb pcp 8 (omega arith)) (good .map pcp (omega arith))
 
-    pub queue-small : queueFor (settingsOf links) port frame ≤ 3
-    unfolding queueFor
-    queue-small = queue-in _ (pcp-of (settingsOf links .port port .default) (tagsOf frame) port-pcp (decoded-are-tags frame each))
+    pub queue-small : factsIn links addresses port frame .queue ≤ 3
+    queue-small =
+        on (factsIn links addresses port frame .bpdu)
+        (λ b. rw (bpdu-queue links addresses frame port b) (omega arith))
+        (λ b. rw (ordinary-queue links addresses frame port b)
+        (queue-in _ (pcp-of (settingsOf links .port port .default) (tagsOf frame) port-pcp (decoded-are-tags frame each))))
 
     look-up-whole : (gid address : ℕ) → damaged (destinationLookUp addresses gid address) ≡ false
     unfolding destinationLookUp
@@ -139,10 +144,10 @@ module _ (links addresses : List ℕ) (good : InRange links addresses) where
         rw (
           look-up-whole (v .gid) (destination frame),
           undamaged addresses (key (v .gid) (source frame)) (good .places),
-          le-leb (queueFor (settingsOf links) port frame) 3 queue-small,
-          tests-whole (v .members) (chosenPort (destinationLookUp addresses (v .gid) (destination frame))) port (queueFor (settingsOf links) port frame) (omega (arith, queue-small)),
+          le-leb (factsIn links addresses port frame .queue) 3 queue-small,
+          tests-whole (v .members) (chosenPort (destinationLookUp addresses (v .gid) (destination frame))) port (factsIn links addresses port frame .queue) (omega (arith, queue-small)),
         )
-        (on (isLearning (settingsOf links .port port .state)) (λ e. rw e) (λ e. rw e (room-whole (length frame) _ _ (omega (arith, queue-small)))))
+        (on (isLearning (factsIn links addresses port frame .state)) (λ e. rw e) (λ e. rw e (room-whole (length frame) _ _ (omega (arith, queue-small)))))
 
     entry-whole : (v : VlanNumbers) → vlanInRange v ≡ true → metEntry links addresses port frame v ≡ false
     unfolding metEntry
@@ -168,14 +173,14 @@ module _ (links addresses : List ℕ) (good : InRange links addresses) where
 
     frame-meets : metFrame links addresses port frame ≡ false
     unfolding metFrame
-    frame-meets = pass-over _ _ (table-whole (vidOf (settingsOf links) port frame))
+    frame-meets = pass-over _ _ (table-whole (factsIn links addresses port frame .vid))
 
     port-meets : metPort links addresses port frame ≡ false
     unfolding metPort
     port-meets =
         rw (good .ports port (omega arith), le-leb (getD links bpduWord 0) 1 (good .bpdu))
-        (on (isBpdu (settingsOf links) port frame) (λ e. rw e bpdu-meets) (λ e. rw e frame-meets))
+        (on (factsIn links addresses port frame .bpdu) (λ e. rw e bpdu-meets) (λ e. rw e frame-meets))
 
     pub meets-none : met links addresses port frame ≡ false
     unfolding met
-    meets-none = pass-over (first (earlyRules frame)) (metPort links addresses port frame) port-meets
+    meets-none = pass-over (first (rowsOf reading (factsIn links addresses port frame))) (metPort links addresses port frame) port-meets

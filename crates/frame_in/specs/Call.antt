@@ -1,48 +1,37 @@
--- What a frame-in does: the rules' verdict, the machine's outcome and events, and what they make of each memory.
+-- What a frame-in does: the rules' outcome of the frame's facts, the machine's events, and what they make of each memory.
 -- Assumes nothing: these are definitions.
-use Prim.Native.Nat.{ℕ, _+_}
-use mathlib.Core.Bool.{Bool, true, false, _&&_, not}
+use Prim.Native.Nat.{ℕ}
+use mathlib.Core.Bool.{Bool, _&&_}
 use mathlib.Core.List.{List, [], _∷_, _++_}
-use mathlib.Core.Option.{Option, none, some}
-use lib.Dec.{ltb}
 use Rattle.rules.specs.Choice.{if_then_else_}
 use Rattle.rules.specs.Lines.{first}
 use Rattle.rules.specs.Tags.{destination, source}
 use Rattle.rules.specs.Reasons.{reasonNumber}
-use Rattle.rules.specs.Settings.{Settings}
 use Rattle.rules.specs.Addresses.{key}
-use Rattle.rules.specs.Arrival.{Frame, Verdict, isBpdu, vlanFor, earlyRules, arrivalRules, decide}
+use Rattle.rules.specs.Outcomes.{Outcome, drops, queues, outcomeOf, learns, isNotLearned}
 use Rattle.rules.specs.Refusals.{Lines, frameInLines}
 use Rattle.machine.specs.Waiting.{size}
-use Rattle.machine.specs.FrameIn.{mask, Outcome, drops, queues, outcomeOf, frameInEvents}
+use Rattle.machine.specs.FrameIn.{mask, frameInEvents}
 use Rattle.layout.specs.Places.{ringOfQueue}
 use Rattle.lent.specs.declared.Answer.{Answer}
 use Rattle.lent.specs.Lengths.{cellCount, linksFit, cellsFit, addressesFit}
 use Rattle.lent.specs.Answers.{doneWith, lengthLine, damageLine, orRefused}
-use Rattle.settings.specs.SettingsOf.{settingsOf}
 use Rattle.addresses.specs.Numbers.{tableOf}
 use Rattle.addresses.specs.Search.{lookUp}
 use Rattle.addresses.specs.Writes.{markedBy, learnedBy}
 use Rattle.cells.specs.Chains.{follow}
 use Rattle.cells.specs.Bytes.{storeCells}
 use Rattle.cells.specs.Stored.{storedBytes}
-use Rattle.cells.specs.Free.{freeCount, firstFree, taken}
+use Rattle.cells.specs.Free.{firstFree, taken}
 use Rattle.queues.specs.Rings.{pushed}
 use Rattle.frame_rules.specs.Stored.{storedHeader}
 use Rattle.frame_rules.specs.Candidates.{destinationLookUp}
 use Rattle.frame_in.specs.Counting.{counted}
 use Rattle.frame_in.specs.Met.{met}
+unfoldable pub use Rattle.frame_in.specs.Facts.{factsIn}
 
 abbrev pub Memories : Type 0
 Memories = List ℕ × List ℕ × List ℕ
-
--- ---- what is decided
-
-unfoldable pub verdictOf : List ℕ → List ℕ → ℕ → List ℕ → Verdict
-verdictOf links addresses port frame = decide (settingsOf links) (tableOf addresses) port (record { bytes = frame })
-
-unfoldable pub outcomeFor : List ℕ → Verdict → Outcome
-outcomeFor links v = outcomeOf (λ (f : Frame). ltb (freeCount links) (size f)) (v .fate)
 
 -- ---- cell and link memory: the frame's cells and rings, then the counters
 
@@ -62,15 +51,6 @@ joinedFor n (queues f ports) links = pushedAt n (f .queue) (firstFree links) por
 
 -- ---- address memory
 
-unfoldable pub isNothing : {A : Type 0} → Option A → Bool
-isNothing none = true
-isNothing (some a) = false
-
--- no reason of 1 to 9 holds, and the frame is no BPDU
-unfoldable pub isLearned : Settings → ℕ → List ℕ → Bool
-isLearned s port frame =
-    isNothing (first (earlyRules frame)) && (not (isBpdu s port frame) && isNothing (first (arrivalRules s port frame)))
-
 -- "a hit marks the entry as used; the source is then learned"
 unfoldable pub lessonIn : List ℕ → ℕ → ℕ → List ℕ → Bool × List ℕ
 lessonIn addresses gid port frame =
@@ -79,8 +59,8 @@ lessonIn addresses gid port frame =
 
 unfoldable pub learnedIn : List ℕ → List ℕ → ℕ → List ℕ → List ℕ
 learnedIn links addresses port frame =
-    if isLearned (settingsOf links) port frame
-    then lessonIn addresses (vlanFor (settingsOf links) port frame .gid) port frame .1
+    if learns (factsIn links addresses port frame)
+    then lessonIn addresses (factsIn links addresses port frame .gid) port frame .1
     else addresses
 
 -- ---- the call
@@ -89,15 +69,14 @@ unfoldable pub answerFor : Outcome → Answer
 answerFor (drops r) = doneWith (reasonNumber r) 0
 answerFor (queues f ports) = doneWith 0 (mask ports)
 
-unfoldable pub enteredAs : Verdict → Outcome → ℕ → List ℕ → List ℕ → List ℕ → List ℕ → Answer × Memories
-enteredAs v o port frame memory links addresses =
-    (answerFor o, (storedFor o links memory, counted (frameInEvents port v o) (joinedFor (cellCount links) o links), learnedIn links addresses port frame))
-
+-- the outcome and what is learned are the rules', what is counted is the machine's events
 unfoldable pub entered : ℕ → List ℕ → List ℕ → List ℕ → List ℕ → Answer × Memories
 entered port frame memory links addresses =
-    enteredAs (verdictOf links addresses port frame) (outcomeFor links (verdictOf links addresses port frame)) port frame memory links addresses
+    let f = factsIn links addresses port frame in
+    let joined = joinedFor (cellCount links) (outcomeOf f) links in
+    (answerFor (outcomeOf f), (storedFor (outcomeOf f) links memory, counted (frameInEvents f (isNotLearned f (tableOf addresses))) joined, learnedIn links addresses port frame))
 
--- the call's lines: 1, document 01's own, 10
+-- the call's lines: 1, the rules' own, 10
 abbrev pub frameInRefusals : List ℕ → List ℕ → List ℕ → ℕ → List ℕ → Lines
 frameInRefusals memory links addresses port frame =
     lengthLine (linksFit links && (cellsFit memory links && addressesFit addresses))

@@ -2,10 +2,10 @@
 use Prim.Native.Nat.{ℕ}
 use mathlib.Core.List.{List, [], _∷_}
 use Rattle.rules.specs.Counters.{counterNumber}
-use Rattle.machine.specs.Events.{Event, portOf, counterOf}
+use Rattle.machine.specs.Events.{Event}
 use Rattle.words.specs.Counters.{bumped}
 
 -- each event at its port and in its counter
 unfoldable pub counted : List Event → List ℕ → List ℕ
 counted [] links = links
-counted (e ∷ es) links = counted es (bumped (portOf e) (counterNumber (counterOf e)) links)
+counted (e ∷ es) links = counted es (bumped (e .port) (counterNumber (e .counter)) links)

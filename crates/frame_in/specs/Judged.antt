@@ -4,15 +4,16 @@ use Prim.Native.Nat.{ℕ, _≤_}
 use mathlib.Core.Path.{_≡_}
 use mathlib.Core.Bool.{Bool, false}
 use mathlib.Core.List.{List}
+use mathlib.Core.Option.{none}
 use lib.ListN.{length}
-use Rattle.rules.specs.Arrival.{Verdict}
+use Rattle.rules.specs.Lines.{first}
+use Rattle.rules.specs.ReasonTable.{reading, rowsOf}
 use Rattle.layout.specs.Places.{linkWords, cellBytes}
 use Rattle.lent.specs.Lengths.{cellCount}
-use Rattle.settings.specs.SettingsOf.{settingsOf}
 use Rattle.frame_rules.specs.declared.plan.Plan.{Plan}
 use Rattle.frame_in.specs.Carried.{carriedOut, Ready}
 use Rattle.frame_in.specs.Met.{met}
-use Rattle.frame_in.specs.Call.{verdictOf, isLearned, entered}
+use Rattle.frame_in.specs.Call.{factsIn, entered}
 
 -- memory whose lengths were found right, and a port that there is
 pub record Lent (links addresses : List ℕ) (n port : ℕ) : Type 0 where
@@ -30,11 +31,10 @@ pub record Judged (links addresses frame : List ℕ) (n port : ℕ) (plan : Plan
   pub damage : plan .damaged ≡ met links addresses port frame
   pub right : plan .damaged ≡ false → Right links addresses frame n port plan
 
--- what is left to be met, decided, and learned
-pub record Way (links addresses frame : List ℕ) (n port : ℕ) (meets : Bool) (verdict : Verdict) (learns : Bool) : Type 0 where
+-- past the reasons 1 to 3: what is left to be met
+pub record Way (links addresses frame : List ℕ) (n port : ℕ) (meets : Bool) : Type 0 where
   pub lent : Lent links addresses n port
   pub shortest : 60 ≤ length frame
   pub longest : length frame ≤ 4083
   pub meets-is : met links addresses port frame ≡ meets
-  pub verdict-is : verdictOf links addresses port frame ≡ verdict
-  pub learns-is : isLearned (settingsOf links) port frame ≡ learns
+  pub read : first (rowsOf reading (factsIn links addresses port frame)) ≡ none

@@ -1,3 +1,4 @@
+pub mod Facts
 pub mod Counting
 pub mod Carried
 pub mod Met

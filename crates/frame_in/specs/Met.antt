@@ -13,7 +13,7 @@ use Rattle.rules.specs.Reasons.{Reason}
 use Rattle.rules.specs.Settings.{isLearning}
 use Rattle.rules.specs.Addresses.{key}
 use Rattle.rules.specs.Arguments.{VlanNumbers, bit, portInRange, vlanInRange}
-use Rattle.rules.specs.Arrival.{isBpdu, vidOf, queueFor, earlyRules}
+use Rattle.rules.specs.ReasonTable.{reading, rowsOf}
 use Rattle.layout.specs.Places.{bpduWord}
 use Rattle.lent.specs.Lengths.{cellCount}
 use Rattle.settings.specs.Records.{portAt, vlanAt}
@@ -26,6 +26,7 @@ use Rattle.frame_rules.specs.declared.plan.Tests.{Tests}
 use Rattle.frame_rules.specs.Arrivals.{portRules}
 use Rattle.frame_rules.specs.Candidates.{destinationLookUp, chosenPort, numbersAt, bpduNumbers, anyDamaged}
 use Rattle.frame_rules.specs.Room.{metRoom}
+use Rattle.frame_in.specs.Facts.{factsIn}
 
 -- nothing is met past a reason
 unfoldable pub unlessDropped : Option Reason → Bool → Bool
@@ -33,19 +34,19 @@ unlessDropped none met = met
 unlessDropped (some r) met = false
 
 -- the tests of the candidate ports; past 10, with a port left, the room
-unfoldable pub metTests : List ℕ → ℕ → List ℕ → ℕ → Tests → Bool
-metTests links port frame queue tests =
+unfoldable pub metTests : List ℕ → List ℕ → ℕ → List ℕ → ℕ → Tests → Bool
+metTests links addresses port frame queue tests =
     anyDamaged tests
-    || (if isLearning (settingsOf links .port port .state) then false else metRoom (cellCount links) links (length frame) queue tests)
+    || (if isLearning (factsIn links addresses port frame .state) then false else metRoom (cellCount links) links (length frame) queue tests)
 
 -- past reason 9: both searches, the queue of the PCP, then the candidates
 unfoldable pub metMember : List ℕ → List ℕ → ℕ → List ℕ → VlanNumbers → Bool
 metMember links addresses port frame v =
     damaged (destinationLookUp addresses (v .gid) (destination frame))
     || (damaged (lookUp addresses (key (v .gid) (source frame)))
-    || (not (leb (queueFor (settingsOf links) port frame) 3)
-    || metTests links port frame (queueFor (settingsOf links) port frame)
-    (numbersAt links (v .members) (chosenPort (destinationLookUp addresses (v .gid) (destination frame))) port (queueFor (settingsOf links) port frame))))
+    || (not (leb (factsIn links addresses port frame .queue) 3)
+    || metTests links addresses port frame (factsIn links addresses port frame .queue)
+    (numbersAt links (v .members) (chosenPort (destinationLookUp addresses (v .gid) (destination frame))) port (factsIn links addresses port frame .queue))))
 
 -- the entry of the VID, its whole record
 unfoldable pub metEntry : List ℕ → List ℕ → ℕ → List ℕ → VlanNumbers → Bool
@@ -61,7 +62,7 @@ metTable links addresses port frame (At e) = metEntry links addresses port frame
 unfoldable pub metFrame : List ℕ → List ℕ → ℕ → List ℕ → Bool
 metFrame links addresses port frame =
     unlessDropped (first (portRules (settingsOf links .port port) (length (tagsOf frame))))
-    (metTable links addresses port frame (foundVlan links (vidOf (settingsOf links) port frame)))
+    (metTable links addresses port frame (foundVlan links (factsIn links addresses port frame .vid)))
 
 -- a BPDU: the switch of queue 3 of port 4, then the room
 unfoldable pub metBpdu : List ℕ → List ℕ → Bool
@@ -73,7 +74,7 @@ unfoldable pub metPort : List ℕ → List ℕ → ℕ → List ℕ → Bool
 metPort links addresses port frame =
     not (portInRange (portAt links port))
     || (not (leb (getD links bpduWord 0) 1)
-    || (if isBpdu (settingsOf links) port frame then metBpdu links frame else metFrame links addresses port frame))
+    || (if factsIn links addresses port frame .bpdu then metBpdu links frame else metFrame links addresses port frame))
 
 unfoldable pub met : List ℕ → List ℕ → ℕ → List ℕ → Bool
-met links addresses port frame = unlessDropped (first (earlyRules frame)) (metPort links addresses port frame)
+met links addresses port frame = unlessDropped (first (rowsOf reading (factsIn links addresses port frame))) (metPort links addresses port frame)

@@ -1,4 +1,4 @@
-// What happens to a frame, in document 01's order: nothing is written.
+// What happens to a frame, in the order of the table of reasons: nothing is written.
 ghost use Rattle.frame_in.specs.Judged.{Lent, Judged};
 ghost use Rattle.frame_in.specs.Stages.{PastEarly, Ordinary, AsBpdu, InEntry, Member, Tested};
 use addresses::key_of;

@@ -1,5 +1,5 @@
 // The call frame-in: a frame that arrives at a port.
-mod judge; // the rules in document 01's order
+mod judge; // the rules in their order
 mod carry; // the writes
 
 ghost use mathlib.Core.Path.{_≡_};

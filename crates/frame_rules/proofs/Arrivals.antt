@@ -12,9 +12,11 @@ use Rattle.rules.specs.Lines.{Line, first}
 use Rattle.rules.specs.Tags.{Header, Tag, headerOf, tagsOf, isGroup, source, addressAt}
 use Rattle.rules.specs.Settings.{isLearning, assignedVid, queuePcp}
 use Rattle.rules.specs.Arguments.{bit, portInRange, portOf}
-use Rattle.rules.specs.Arrival.{earlyRules}
+use Rattle.rules.specs.Choice.{sift}
 use Rattle.rules.specs.Reasons.{Reason, reasonNumber}
-use Rattle.machine.specs.CallTheorems.{outcomeNumber}
+use Rattle.rules.specs.Facts.{Facts}
+use Rattle.rules.specs.ReasonTable.{reading, partNumber, reasonTable, linesIn, rowsOf}
+use Rattle.machine.specs.CountTheorems.{outcomeNumber}
 use Rattle.tags.specs.Numbers.{stackIs}
 use Rattle.tags.specs.Stacks.{stack-length, header-missing, header-outermost}
 use Rattle.tags.specs.declared.stack.Stack.{Stack}
@@ -25,23 +27,23 @@ use Rattle.frame_rules.specs.Arrivals.{barRules, portRules, ArrivalIs}
 use Rattle.frame_rules.specs.declared.arrival.Arrival.{Arrival}
 use Rattle.frame_rules.proofs.States.{blocking, not-blocking, listening, not-listening, learning-is}
 
-module _ (frame : List ℕ) where
-  pub early-short : length frame < 60 → 1 ≡ outcomeNumber (first (earlyRules frame))
-  unfolding earlyRules first reasonNumber
-  early-short h = rw (lt-ltb (length frame) 60 h)
+module _ (frame : List ℕ) (f : Facts) (bytes-are : f .packet .bytes ≡ frame) where
+  pub early-short : length frame < 60 → 1 ≡ outcomeNumber (first (rowsOf reading f))
+  unfolding rowsOf linesIn sift partNumber reasonTable first reasonNumber
+  early-short h = rw (bytes-are, lt-ltb (length frame) 60 h)
 
-  pub early-long : 60 ≤ length frame → 4083 < length frame → 2 ≡ outcomeNumber (first (earlyRules frame))
-  unfolding earlyRules first reasonNumber
-  early-long a b = rw (le-ltb (length frame) 60 a, lt-ltb 4083 (length frame) b)
+  pub early-long : 60 ≤ length frame → 4083 < length frame → 2 ≡ outcomeNumber (first (rowsOf reading f))
+  unfolding rowsOf linesIn sift partNumber reasonTable first reasonNumber
+  early-long a b = rw (bytes-are, le-ltb (length frame) 60 a, lt-ltb 4083 (length frame) b)
 
   module _ (a : 60 ≤ length frame) (b : length frame ≤ 4083) where
-    pub early-group : isGroup (addressAt frame 6) ≡ true → 3 ≡ outcomeNumber (first (earlyRules frame))
-    unfolding earlyRules first reasonNumber source
-    early-group e = rw (le-ltb (length frame) 60 a, le-ltb 4083 (length frame) b, e)
+    pub early-group : isGroup (addressAt frame 6) ≡ true → 3 ≡ outcomeNumber (first (rowsOf reading f))
+    unfolding rowsOf linesIn sift partNumber reasonTable first reasonNumber source
+    early-group e = rw (bytes-are, le-ltb (length frame) 60 a, le-ltb 4083 (length frame) b, e)
 
-    pub early-none : isGroup (addressAt frame 6) ≡ false → 0 ≡ outcomeNumber (first (earlyRules frame))
-    unfolding earlyRules first reasonNumber source
-    early-none e = rw (le-ltb (length frame) 60 a, le-ltb 4083 (length frame) b, e)
+    pub early-none : isGroup (addressAt frame 6) ≡ false → 0 ≡ outcomeNumber (first (rowsOf reading f))
+    unfolding rowsOf linesIn sift partNumber reasonTable first reasonNumber source
+    early-none e = rw (bytes-are, le-ltb (length frame) 60 a, le-ltb 4083 (length frame) b, e)
 
 module _ (flags state count : ℕ) where
   pub bar-tags : bit flags count ≡ true → 4 ≡ outcomeNumber (first (barRules flags state count))

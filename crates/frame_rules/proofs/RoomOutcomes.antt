@@ -17,30 +17,30 @@ use Rattle.frame_rules.specs.declared.plan.Tests.{Tests}
 use Rattle.frame_rules.specs.declared.plan.Offer.{Offer}
 use Rattle.frame_rules.specs.Plans.{damagedPlan, offerPlan}
 use Rattle.frame_rules.specs.Candidates.{bpduNumbers}
-use Rattle.frame_rules.specs.Room.{leftMask, ringReady, ringsReady, withRoom, offered, OfBpdu}
+use Rattle.frame_rules.specs.Room.{leftMask, ringReady, ringsReady, withRoom, planOffered, OfBpdu}
 
 module _ (n : ℕ) (links : List ℕ) (long : ℕ) (lesson : Lesson) (offer : Offer) where
-  pub none-left : leftMask (offer .tests) ≡ 0 → offerPlan 12 lesson offer 0 ≡ offered n links long lesson offer
-  unfolding offered
+  pub none-left : leftMask (offer .tests) ≡ 0 → offerPlan 12 lesson offer 0 ≡ planOffered n links long lesson offer
+  unfolding planOffered
   none-left e = rw (eq-eqb (leftMask (offer .tests)) 0 e)
 
   module _ (some-left : leftMask (offer .tests) ≡ 0 → ⊥) where
-    pub room-damaged : roomFor n (cells long) links ≡ Damaged → damagedPlan ≡ offered n links long lesson offer
-    unfolding offered withRoom
+    pub room-damaged : roomFor n (cells long) links ≡ Damaged → damagedPlan ≡ planOffered n links long lesson offer
+    unfolding planOffered withRoom
     room-damaged e = rw (ne-eqb (leftMask (offer .tests)) 0 some-left, e)
 
-    pub room-none : roomFor n (cells long) links ≡ NoRoom → offerPlan 13 lesson offer 0 ≡ offered n links long lesson offer
-    unfolding offered withRoom
+    pub room-none : roomFor n (cells long) links ≡ NoRoom → offerPlan 13 lesson offer 0 ≡ planOffered n links long lesson offer
+    unfolding planOffered withRoom
     room-none e = rw (ne-eqb (leftMask (offer .tests)) 0 some-left, e)
 
     pub room-enough : roomFor n (cells long) links ≡ Enough → ringsReady n links (offer .queue) (offer .tests) ≡ true
-        → offerPlan 0 lesson offer (leftMask (offer .tests)) ≡ offered n links long lesson offer
-    unfolding offered withRoom
+        → offerPlan 0 lesson offer (leftMask (offer .tests)) ≡ planOffered n links long lesson offer
+    unfolding planOffered withRoom
     room-enough e r = rw (ne-eqb (leftMask (offer .tests)) 0 some-left, e, r)
 
     pub rings-damaged : roomFor n (cells long) links ≡ Enough → ringsReady n links (offer .queue) (offer .tests) ≡ false
-        → damagedPlan ≡ offered n links long lesson offer
-    unfolding offered withRoom
+        → damagedPlan ≡ planOffered n links long lesson offer
+    unfolding planOffered withRoom
     rings-damaged e r = rw (ne-eqb (leftMask (offer .tests)) 0 some-left, e, r)
 
 -- ---- a BPDU: port 4 alone

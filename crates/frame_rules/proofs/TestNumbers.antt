@@ -9,10 +9,9 @@ use borrow.Author.Tests.{lt-ltb}
 use lib.Dec.{eqb, leb}
 use lib.ListN.{getD}
 use Rattle.rules.specs.Choice.{if_then_else_}
-use Rattle.rules.specs.Addresses.{Found}
-use Rattle.rules.specs.Settings.{Port, Vlan, departs}
+use Rattle.rules.specs.Settings.{Port, Vlan, departs, stateFor}
 use Rattle.rules.specs.Arguments.{bit, flag, stateOf, portOf}
-use Rattle.rules.specs.PortTests.{passes, queueOff, isChosen, portTest, bpduTest}
+use Rattle.rules.specs.PortTests.{passes, queueOff, portTest, bpduTest}
 use Rattle.rules.proofs.Choice.{on, or-left, or-right}
 use Rattle.layout.specs.Places.{portWord, queueSwitchWord}
 use Rattle.settings.specs.Records.{portAt, portFrom}
@@ -45,8 +44,8 @@ unfolding testNumber
 number-of-switch true = refl
 number-of-switch false = refl
 
-module _ (l : List ℕ) (members chosen port queue r : ℕ) (v : Vlan) (found : Found) (there : r < 5) (fourth : queue < 4)
-    (member : v .member r ≡ bit members r) (choice : isChosen found r ≡ (eqb chosen 5 || eqb chosen r)) where
+module _ (l : List ℕ) (members chosen port queue r : ℕ) (v : Vlan) (chooses : ℕ → Bool) (there : r < 5) (fourth : queue < 4)
+    (member : v .member r ≡ bit members r) (choice : chooses r ≡ (eqb chosen 5 || eqb chosen r)) where
   no-candidate : isCandidateAt members chosen port r ≡ false → portNumber l members chosen port queue r ≡ 1
   unfolding portNumber
   no-candidate e = rw e
@@ -55,16 +54,16 @@ module _ (l : List ℕ) (members chosen port queue r : ℕ) (v : Vlan) (found : 
   unfolding portNumber
   candidate e = rw e
 
-  not-member : bit members r ≡ false → portNumber l members chosen port queue r ≡ testNumber (portTest (settingsOf l) v found port queue r)
+  not-member : bit members r ≡ false → portNumber l members chosen port queue r ≡ testNumber (portTest (settingsOf l) v chooses port queue r)
   unfolding portTest testNumber isCandidateAt
   not-member a = no-candidate (rw a) ∙ rw (member, a)
 
-  at-arrival : bit members r ≡ true → eqb r port ≡ true → portNumber l members chosen port queue r ≡ testNumber (portTest (settingsOf l) v found port queue r)
+  at-arrival : bit members r ≡ true → eqb r port ≡ true → portNumber l members chosen port queue r ≡ testNumber (portTest (settingsOf l) v chooses port queue r)
   unfolding portTest testNumber isCandidateAt
   at-arrival a b = no-candidate (rw (a, b)) ∙ rw (member, a, b)
 
   module _ (a : bit members r ≡ true) (b : eqb r port ≡ false) where
-    at-another : (eqb chosen 5 || eqb chosen r) ≡ false → portNumber l members chosen port queue r ≡ testNumber (portTest (settingsOf l) v found port queue r)
+    at-another : (eqb chosen 5 || eqb chosen r) ≡ false → portNumber l members chosen port queue r ≡ testNumber (portTest (settingsOf l) v chooses port queue r)
     unfolding portTest testNumber isCandidateAt
     at-another c = no-candidate (rw (a, b, c)) ∙ rw (member, a, b, choice, c)
 
@@ -73,16 +72,16 @@ module _ (l : List ℕ) (members chosen port queue r : ℕ) (v : Vlan) (found : 
       unfolding isCandidateAt
       is-candidate = candidate (rw (a, b, c))
 
-      by-state : departs (stateOf (getD l (portWord r) 0)) ≡ false → 17 ≡ testNumber (portTest (settingsOf l) v found port queue r)
-      unfolding portTest testNumber
+      by-state : departs (stateOf (getD l (portWord r) 0)) ≡ false → 17 ≡ testNumber (portTest (settingsOf l) v chooses port queue r)
+      unfolding portTest stateFor testNumber
       by-state d = rw (member, a, b, choice, c, state-is l r there, d)
 
       by-switch : departs (stateOf (getD l (portWord r) 0)) ≡ true
-          → (if flag (getD l (queueSwitchWord r queue) 0) then 0 else 18) ≡ testNumber (portTest (settingsOf l) v found port queue r)
-      unfolding portTest
+          → (if flag (getD l (queueSwitchWord r queue) 0) then 0 else 18) ≡ testNumber (portTest (settingsOf l) v chooses port queue r)
+      unfolding portTest stateFor
       by-switch d = rw (member, a, b, choice, c, state-is l r there, d, switch-is l r queue there fourth) (number-of-switch (flag (getD l (queueSwitchWord r queue) 0)))
 
-      by-tests : eqb (candidateNumber l queue r) 2 ≡ false → candidateNumber l queue r ≡ testNumber (portTest (settingsOf l) v found port queue r)
+      by-tests : eqb (candidateNumber l queue r) 2 ≡ false → candidateNumber l queue r ≡ testNumber (portTest (settingsOf l) v chooses port queue r)
       unfolding candidateNumber switchNumber
       by-tests u =
           on (leb (getD l (portWord r) 0) 4)
@@ -94,7 +93,7 @@ module _ (l : List ℕ) (members chosen port queue r : ℕ) (v : Vlan) (found : 
           (λ e. absurd (true≢false (rw e at u)))
 
   pub number-is : eqb (portNumber l members chosen port queue r) 2 ≡ false
-      → portNumber l members chosen port queue r ≡ testNumber (portTest (settingsOf l) v found port queue r)
+      → portNumber l members chosen port queue r ≡ testNumber (portTest (settingsOf l) v chooses port queue r)
   number-is u =
       on (bit members r)
       (λ a. on (eqb r port)
@@ -137,17 +136,17 @@ pub same-tests : {a b c d e a′ b′ c′ d′ e′ : ℕ} → a ≡ a′ → b
 same-tests p q r s t = cc
 
 pub numbers-are :
-    (l : List ℕ) (members chosen port queue : ℕ) (v : Vlan) (found : Found) → queue < 4 → ((r : ℕ) → v .member r ≡ bit members r)
-    → ((r : ℕ) → r < 5 → isChosen found r ≡ (eqb chosen 5 || eqb chosen r)) → anyDamaged (numbersAt l members chosen port queue) ≡ false
-    → numbersAt l members chosen port queue ≡ numbersOf (portTest (settingsOf l) v found port queue)
-numbers-are l members chosen port queue v found q member choice u =
+    (l : List ℕ) (members chosen port queue : ℕ) (v : Vlan) (chooses : ℕ → Bool) → queue < 4 → ((r : ℕ) → v .member r ≡ bit members r)
+    → ((r : ℕ) → r < 5 → chooses r ≡ (eqb chosen 5 || eqb chosen r)) → anyDamaged (numbersAt l members chosen port queue) ≡ false
+    → numbersAt l members chosen port queue ≡ numbersOf (portTest (settingsOf l) v chooses port queue)
+numbers-are l members chosen port queue v chooses q member choice u =
     let w = whole (numbersAt l members chosen port queue) u in
     same-tests
-    (number-is l members chosen port queue 0 v found (omega arith) q (member 0) (choice 0 (omega arith)) (w .zero))
-    (number-is l members chosen port queue 1 v found (omega arith) q (member 1) (choice 1 (omega arith)) (w .one))
-    (number-is l members chosen port queue 2 v found (omega arith) q (member 2) (choice 2 (omega arith)) (w .two))
-    (number-is l members chosen port queue 3 v found (omega arith) q (member 3) (choice 3 (omega arith)) (w .three))
-    (number-is l members chosen port queue 4 v found (omega arith) q (member 4) (choice 4 (omega arith)) (w .four))
+    (number-is l members chosen port queue 0 v chooses (omega arith) q (member 0) (choice 0 (omega arith)) (w .zero))
+    (number-is l members chosen port queue 1 v chooses (omega arith) q (member 1) (choice 1 (omega arith)) (w .one))
+    (number-is l members chosen port queue 2 v chooses (omega arith) q (member 2) (choice 2 (omega arith)) (w .two))
+    (number-is l members chosen port queue 3 v chooses (omega arith) q (member 3) (choice 3 (omega arith)) (w .three))
+    (number-is l members chosen port queue 4 v chooses (omega arith) q (member 4) (choice 4 (omega arith)) (w .four))
 
 -- ---- a BPDU
 

@@ -10,7 +10,7 @@ use Rattle.rules.specs.Tags.{headerOf, tagsOf}
 use Rattle.rules.specs.Settings.{Port, isBlocking, isListening, isLearning, assignedVid, queuePcp}
 use Rattle.rules.specs.Arguments.{bit, stateOf}
 use Rattle.rules.specs.Reasons.{Reason, tagCount, portBlocking, portListening}
-use Rattle.machine.specs.CallTheorems.{outcomeNumber}
+use Rattle.machine.specs.CountTheorems.{outcomeNumber}
 use Rattle.frame_rules.specs.declared.arrival.Arrival.{Arrival}
 
 -- 4 to 6

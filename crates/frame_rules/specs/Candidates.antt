@@ -10,7 +10,8 @@ use Rattle.rules.specs.Tags.{isGroup}
 use Rattle.rules.specs.Settings.{departs}
 use Rattle.rules.specs.Addresses.{key}
 use Rattle.rules.specs.Arguments.{bit, flag, stateOf}
-use Rattle.rules.specs.PortTests.{Test, passes, notMember, arrival, elsewhere, state, queueOff, managementPort}
+use Rattle.rules.specs.PortTests.{Test, passes, notMember, arrival, elsewhere, state, queueOff}
+use Rattle.rules.specs.Numbers.{managementPort}
 use Rattle.layout.specs.Places.{portWord, queueSwitchWord}
 use Rattle.addresses.specs.Search.{lookUp}
 use Rattle.addresses.specs.declared.LookUp.{LookUp}

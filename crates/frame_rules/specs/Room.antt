@@ -55,8 +55,8 @@ withRoom Damaged ready lesson offer = damagedPlan
 withRoom NoRoom ready lesson offer = offerPlan 13 lesson offer 0
 withRoom Enough ready lesson offer = if ready then offerPlan 0 lesson offer (leftMask (offer .tests)) else damagedPlan
 
-unfoldable pub offered : ℕ → List ℕ → ℕ → Lesson → Offer → Plan
-offered n links long lesson offer =
+unfoldable pub planOffered : ℕ → List ℕ → ℕ → Lesson → Offer → Plan
+planOffered n links long lesson offer =
     if eqb (leftMask (offer .tests)) 0
     then offerPlan 12 lesson offer 0
     else withRoom (roomFor n (cells long) links) (ringsReady n links (offer .queue) (offer .tests)) lesson offer

@@ -3,13 +3,14 @@ use Prim.Native.Nat.{ℕ, _+_, _*_}
 use mathlib.Core.Bool.{Bool, true, false}
 use lib.Dec.{eqb}
 use lib.ListN.{length}
+use Rattle.rules.specs.Numbers.{customerTag}
 use Rattle.rules.specs.Choice.{if_then_else_}
 use Rattle.rules.specs.Tags.{Header}
 use Rattle.rules.specs.Operations.{Source, outermost, second, given, Kind, none, pop, push, swap, popAll, Operation}
-use Rattle.rules.specs.Arrival.{Frame}
+use Rattle.rules.specs.Outcomes.{Frame}
 use Rattle.cells.specs.declared.stored.StoredHeader.{StoredHeader}
 
--- ---- document 01's numbers
+-- ---- the numbers of the calls
 
 unfoldable pub kindNumber : Kind → ℕ
 kindNumber none = 0
@@ -19,7 +20,7 @@ kindNumber swap = 3
 kindNumber popAll = 4
 
 unfoldable pub typeNumber : ℕ → ℕ
-typeNumber type = if eqb type 0x8100 then 0 else 1
+typeNumber type = if eqb type customerTag then 0 else 1
 
 unfoldable pub sourceNumber : Source → ℕ
 sourceNumber outermost = 0

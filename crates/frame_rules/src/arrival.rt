@@ -1,4 +1,4 @@
-// Document 01's rules 1 to 9, and what they read.
+// Reasons 1 to 9, and what they read.
 ghost use mathlib.Core.Path.{_≡_};
 ghost use mathlib.Core.Bool.{true, _&&_, not};
 ghost use Prim.Native.Nat.{_≤_, _<_};
@@ -7,8 +7,9 @@ ghost use lib.ListN.{length};
 ghost use Rattle.rules.specs.Lines.{first};
 ghost use Rattle.rules.specs.Tags.{destination, headerOf};
 ghost use Rattle.rules.specs.Arguments.{bit, flag, portInRange, portOf, operationInRange, operationOf};
-ghost use Rattle.rules.specs.Arrival.{earlyRules};
-ghost use Rattle.machine.specs.CallTheorems.{outcomeNumber};
+ghost use Rattle.rules.specs.Facts.{Facts};
+ghost use Rattle.rules.specs.ReasonTable.{reading, rowsOf};
+ghost use Rattle.machine.specs.CountTheorems.{outcomeNumber};
 ghost use Rattle.settings.specs.Records.{portIs, operationIs};
 ghost use Rattle.frame_rules.specs.Stored.{operationByte};
 ghost use Rattle.frame_rules.specs.Arrivals.{barRules, absentReason, ArrivalIs};
@@ -21,9 +22,9 @@ use tags::reading::address_at;
 use tags::reading::decode;
 use tags::reading::is_group;
 
-// 1 to 3: the frame alone.
+// 1 to 3: the frame alone, whatever its other facts are.
 pub fn early(frame: &[u8]) -> u32
-    ensures { λ r. ⌜ r ≡ outcomeNumber (first (earlyRules (now (frame .entry)))) ⌝ }
+    ensures { λ r. ⌜ ((f : Facts) → f .packet .bytes ≡ now (frame .entry) → r ≡ outcomeNumber (first (rowsOf reading f))) ⌝ }
 {
     if frame.len() < 60 {
         return 1;

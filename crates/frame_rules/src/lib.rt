@@ -1,4 +1,4 @@
-// Document 01's rules for a frame that arrives, each alone: nothing is written.
+// The rules for a frame that arrives, each alone: nothing is written.
 pub mod plan; // what is decided before the first write
 pub mod arrival; // rules 1 to 9
 pub mod candidates; // each port's test

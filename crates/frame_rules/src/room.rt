@@ -7,7 +7,7 @@ ghost use Rattle.rules.specs.Choice.{if_then_else_};
 ghost use Rattle.rules.specs.Cells as rules;
 ghost use Rattle.layout.specs.Places.{linkWords};
 ghost use Rattle.frame_rules.specs.Plans.{noLesson};
-ghost use Rattle.frame_rules.specs.Room.{leftMask, ringReady, ringsReady, offered, OfBpdu};
+ghost use Rattle.frame_rules.specs.Room.{leftMask, ringReady, ringsReady, planOffered, OfBpdu};
 use crate::plan::Lesson;
 use crate::plan::Offer;
 use crate::plan::Plan;
@@ -67,7 +67,7 @@ pub fn cells_of(long: usize) -> usize
 
 pub fn offered_plan(links: &[u32], n: usize, long: usize, lesson: Lesson, offer: Offer) -> Plan
     requires { ⌜ (linkWords n ≤ length (now links)) × (long ≤ 4083) × (offer .queue ≤ 3) ⌝ }
-    ensures { λ r. ⌜ r ≡ offered n (now (links .entry)) long lesson offer ⌝ }
+    ensures { λ r. ⌜ r ≡ planOffered n (now (links .entry)) long lesson offer ⌝ }
 {
     let tests = offer.tests;
     let left = left_mask(tests);
@@ -89,7 +89,7 @@ pub fn offered_plan(links: &[u32], n: usize, long: usize, lesson: Lesson, offer:
 // The same for a BPDU, whose one candidate is port 4, in queue 3: ring 19.
 pub fn bpdu_plan(links: &[u32], n: usize, long: usize, offer: Offer) -> Plan
     requires { ⌜ (linkWords n ≤ length (now links)) × (long ≤ 4083) × OfBpdu offer ⌝ }
-    ensures { λ r. ⌜ r ≡ offered n (now (links .entry)) long noLesson offer ⌝ }
+    ensures { λ r. ⌜ r ≡ planOffered n (now (links .entry)) long noLesson offer ⌝ }
 {
     let tests = offer.tests;
     if 0 < tests.four {

@@ -9,7 +9,7 @@ use borrow.Author.Tests.{leb-true, eqb-true}
 use Rattle.rules.specs.Lines.{first}
 use Rattle.rules.specs.Refusals.{memoryLength}
 use Rattle.rules.specs.Cells.{fewestCells, mostCells}
-use Rattle.rules.specs.Addresses.{placeCount}
+use Rattle.rules.specs.Numbers.{placeCount}
 use Rattle.rules.proofs.Choice.{and-left, and-right}
 use Rattle.layout.specs.Places.{cellBytes, linkWords}
 use Rattle.lent.specs.declared.Answer.{Answer}

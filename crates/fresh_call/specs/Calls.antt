@@ -8,7 +8,7 @@ use lib.ListN.{length, replicate}
 use Rattle.rules.specs.Lines.{first}
 use Rattle.rules.specs.Refusals.{Lines}
 use Rattle.rules.specs.Cells.{fewestCells, mostCells, cellSize}
-use Rattle.rules.specs.Addresses.{placeCount}
+use Rattle.rules.specs.Numbers.{placeCount}
 use Rattle.layout.specs.Places.{cellBytes, linkWords}
 use Rattle.lent.specs.declared.Answer.{Answer}
 use Rattle.lent.specs.Answers.{doneWith, lengthLine, orRefused}

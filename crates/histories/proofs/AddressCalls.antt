@@ -10,14 +10,17 @@ use lib.ListN.{length}
 use borrow.Author.Tests.{leb-true, ltb-true, ltb-false, not-false}
 use Rattle.rules.specs.Lines.{first}
 use Rattle.rules.specs.Refusals.{ageLines, staticLines, removeLines}
-use Rattle.rules.specs.Addresses.{placeCount, Table, key, find, isFound, noPlaceFor}
+use Rattle.rules.specs.Numbers.{placeCount}
+use Rattle.rules.specs.Addresses.{Table, key, find, noPlaceFor}
+use Rattle.rules.specs.Tables.{isFound}
 use Rattle.rules.specs.Arguments.{isAddress}
 use Rattle.rules.proofs.Choice.{and-left, and-right, each-first, each-rest}
 use Rattle.rules.proofs.Lines.{holds-none}
 use Rattle.machine.specs.Events.{tally}
+use Rattle.rules.specs.Requests.{StaticRequest, RemoveRequest}
 use Rattle.machine.specs.State.{State, setTable, age, static, remove}
-use Rattle.machine.specs.SettingCalls.{leaves}
-use Rattle.machine.specs.Machine.{linesOf, ageStep, act, next}
+use Rattle.machine.specs.SettingCalls.{silently}
+use Rattle.machine.specs.Machine.{linesOf, ageStep, carryOut, next}
 use Rattle.lent.specs.Lengths.{addressesFit}
 use Rattle.lent.specs.Fits.{addresses-fit}
 use Rattle.lent.specs.Answers.{doneWith}
@@ -91,38 +94,41 @@ module _ (m : Memories) (s : State) (S : Stands m s) where
 
   -- ---- static
 
-  static-done : (gid p address : ℕ) (buffer : List ℕ) → gid ≤ 15 → p ≤ 4 → address < 2 ^ 48
-      → Follows (onAddresses m buffer (doneWith 0 0, staticBy (lookUp memory (key gid address)) (key gid address) p memory)) buffer s (act s (static gid p address))
-  unfolding act leaves numbersOf handedBack next tally
-  static-done gid p address buffer hg hp ha =
-      let small = key-small gid address hg ha in
+  static-done : (c : StaticRequest) (buffer : List ℕ) → c .gid ≤ 15 → c .port ≤ 4 → c .address < 2 ^ 48
+      → Follows (onAddresses m buffer (doneWith 0 0, staticBy (lookUp memory (key (c .gid) (c .address))) (key (c .gid) (c .address)) (c .port) memory)) buffer s (carryOut s (static c))
+  unfolding carryOut silently numbersOf handedBack next tally
+  static-done c buffer hg hp ha =
+      let k = key (c .gid) (c .address) in
+      let p = c .port in
+      let small = key-small (c .gid) (c .address) hg ha in
       record {
         same-answer = refl;
         same-bytes = refl;
         stands-kept =
-            addresses-then m s S (staticBy (lookUp memory (key gid address)) (key gid address) p memory) _
+            addresses-then m s S (staticBy (lookUp memory k) k p memory) _
             (record {
-              fit = fits _ (length-theorems memory .static-long (lookUp memory (key gid address)) (key gid address) p);
-              says = steps (key gid address) .static-is p small hp ∙ rw (S .addresses .says) refl;
-              in-range = range-theorems memory (S .addresses .in-range) .static-in-range (key gid address) p small hp;
+              fit = fits _ (length-theorems memory .static-long (lookUp memory k) k p);
+              says = steps k .static-is p small hp ∙ rw (S .addresses .says) refl;
+              in-range = range-theorems memory (S .addresses .in-range) .static-in-range k p small hp;
             });
       }
 
   -- ---- remove
 
-  remove-done : (gid address : ℕ) (buffer : List ℕ)
-      → Follows (onAddresses m buffer (doneWith 0 0, removedBy (lookUp memory (key gid address)) memory)) buffer s (act s (remove gid address))
-  unfolding act leaves numbersOf handedBack next tally
-  remove-done gid address buffer =
+  remove-done : (c : RemoveRequest) (buffer : List ℕ)
+      → Follows (onAddresses m buffer (doneWith 0 0, removedBy (lookUp memory (key (c .gid) (c .address))) memory)) buffer s (carryOut s (remove c))
+  unfolding carryOut silently numbersOf handedBack next tally
+  remove-done c buffer =
+      let k = key (c .gid) (c .address) in
       record {
         same-answer = refl;
         same-bytes = refl;
         stands-kept =
-            addresses-then m s S (removedBy (lookUp memory (key gid address)) memory) _
+            addresses-then m s S (removedBy (lookUp memory k) memory) _
             (record {
-              fit = fits _ (length-theorems memory .remove-long (lookUp memory (key gid address)));
-              says = steps (key gid address) .remove-is ∙ rw (S .addresses .says) refl;
-              in-range = range-theorems memory (S .addresses .in-range) .remove-in-range (key gid address);
+              fit = fits _ (length-theorems memory .remove-long (lookUp memory k));
+              says = steps k .remove-is ∙ rw (S .addresses .says) refl;
+              in-range = range-theorems memory (S .addresses .in-range) .remove-in-range k;
             });
       }
 
@@ -136,43 +142,47 @@ module _ (m : Memories) (s : State) (S : Stands m s) where
 
 -- ---- what the lines of static exclude
 
-module _ (noPlace : Bool) (gid p address : ℕ) (e : first (staticLines noPlace gid p address) ≡ none) where
-  port-small : p ≤ 4
+module _ (noPlace : Bool) (c : StaticRequest) (e : first (staticLines noPlace c) ≡ none) where
+  port-small : c .port ≤ 4
   unfolding staticLines
-  port-small = ltb-false 4 p (each-first (holds-none _ e))
+  port-small = ltb-false 4 (c .port) (each-first (holds-none _ e))
 
-  gid-and-address : (leb gid 15 && isAddress address) ≡ true
+  gid-and-address : (leb (c .gid) 15 && isAddress (c .address)) ≡ true
   unfolding staticLines
   gid-and-address = not-false _ (each-first (each-rest (holds-none _ e)))
 
-  gid-small : gid ≤ 15
-  gid-small = leb-true gid 15 (and-left (leb gid 15) (isAddress address) gid-and-address)
+  gid-small : c .gid ≤ 15
+  gid-small = leb-true (c .gid) 15 (and-left (leb (c .gid) 15) (isAddress (c .address)) gid-and-address)
 
-  address-small : address < 2 ^ 48
+  address-small : c .address < 2 ^ 48
   unfolding isAddress
-  address-small = ltb-true address (2 ^ 48) (and-right (leb gid 15) (isAddress address) gid-and-address)
+  address-small = ltb-true (c .address) (2 ^ 48) (and-right (leb (c .gid) 15) (isAddress (c .address)) gid-and-address)
 
 -- ---- the calls
 
 pub age-follows : CallFollows age
-unfolding run ageCall ageRefusals linesOf act
+unfolding run ageCall ageRefusals linesOf carryOut
 age-follows m s S buffer h =
     follows-by m s S age buffer (m .addresses) _ (onAddresses m buffer) (λ r. refl) _
     (lines-between ageLines (S .addresses .fit) (rw (S .addresses .in-range) refl))
     (λ e. age-done m s S buffer)
 
-pub static-follows : (gid p address : ℕ) → CallFollows (static gid p address)
+pub static-follows : (c : StaticRequest) → CallFollows (static c)
 unfolding run staticCall staticRefusals linesOf
-static-follows gid p address m s S buffer h =
-    follows-by m s S (static gid p address) buffer (m .addresses) _ (onAddresses m buffer) (λ r. refl) _
+static-follows c m s S buffer h =
+    let gid = c .gid in
+    let address = c .address in
+    follows-by m s S (static c) buffer (m .addresses) _ (onAddresses m buffer) (λ r. refl) _
     (lines-between _ (S .addresses .fit) (whole m s S (key gid address))
-    ∙ ap (λ (b : Bool). first (staticLines b gid p address)) (full-is m s S (key gid address)))
-    (λ e. static-done m s S gid p address buffer (gid-small _ gid p address e) (port-small _ gid p address e) (address-small _ gid p address e))
+    ∙ ap (λ (b : Bool). first (staticLines b c)) (full-is m s S (key gid address)))
+    (λ e. static-done m s S c buffer (gid-small _ c e) (port-small _ c e) (address-small _ c e))
 
-pub remove-follows : (gid address : ℕ) → CallFollows (remove gid address)
+pub remove-follows : (c : RemoveRequest) → CallFollows (remove c)
 unfolding run removeCall removeRefusals linesOf
-remove-follows gid address m s S buffer h =
-    follows-by m s S (remove gid address) buffer (m .addresses) _ (onAddresses m buffer) (λ r. refl) _
+remove-follows c m s S buffer h =
+    let gid = c .gid in
+    let address = c .address in
+    follows-by m s S (remove c) buffer (m .addresses) _ (onAddresses m buffer) (λ r. refl) _
     (lines-between _ (S .addresses .fit) (whole m s S (key gid address))
-    ∙ ap (λ (b : Bool). first (removeLines b gid address)) (there-is m s S (key gid address)))
-    (λ e. remove-done m s S gid address buffer)
+    ∙ ap (λ (b : Bool). first (removeLines b c)) (there-is m s S (key gid address)))
+    (λ e. remove-done m s S c buffer)

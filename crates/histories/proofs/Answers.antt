@@ -9,7 +9,7 @@ use Rattle.rules.specs.Refusals.{Refusal, Lines}
 use Rattle.rules.proofs.Choice.{on, onOption}
 use Rattle.machine.specs.Events.{tally}
 use Rattle.machine.specs.State.{State, Call}
-use Rattle.machine.specs.Machine.{linesOf, act, refusing, unlessRefused, perform, next}
+use Rattle.machine.specs.Machine.{linesOf, carryOut, refusing, unlessRefused, perform, next}
 use Rattle.lent.specs.declared.Answer as Lent
 use Rattle.lent.specs.Answers.{refusedBy, lengthLine, damageLine, orRefused}
 use Rattle.histories.specs.Memories.{Memories, Done}
@@ -43,7 +43,7 @@ pub follows-by : (m : Memories) (s : State) → Stands m s → (c : Call) (buffe
     {M : Type 0} (memory : M) (step : Lent.Answer × M) (done : Lent.Answer × M → Done)
     → ((r : Refusal) → done (refusedBy r, memory) ≡ record { answer = refusedBy r; buffer = buffer; memories = m })
     → (o : Option Refusal) → o ≡ first (linesOf s c)
-    → (first (linesOf s c) ≡ none → Follows (done step) buffer s (act s c))
+    → (first (linesOf s c) ≡ none → Follows (done step) buffer s (carryOut s c))
     → Follows (done (orRefused o memory step)) buffer s (perform s c)
 unfolding perform unlessRefused
 follows-by m s S c buffer memory step done refusal o same doing =

@@ -9,9 +9,10 @@ use lib.Seq.{getD-set-other}
 use borrow.Author.Tests.{eqb-true, eqb-false}
 use Rattle.rules.specs.Choice.{Each, also}
 use Rattle.rules.specs.Reasons.{Reason, reasonNumber, short, long, groupSource, tagCount, portBlocking, portListening, vid4095, noVlan, noMember, portLearning, noCandidate, noPortLeft, noRoom}
-use Rattle.rules.specs.Counters.{Counter, counterNumber, lastCounter, offered, accepted, notLearned, queued, state, queueOff, sent, drained, reason}
+use Rattle.rules.specs.Counters.{Counter, counterNumber, offered, accepted, notLearned, queued, stateOut, queueOut, sent, drained, reason}
+use Rattle.rules.specs.Numbers.{lastCounter}
 use Rattle.rules.proofs.Choice.{on}
-use Rattle.machine.specs.Events.{Event, portOf, counterOf, Counts, bumps, bump, tally}
+use Rattle.machine.specs.Events.{Event, Counts, bumps, bump, tally}
 use Rattle.layout.specs.Places.{counterWord}
 use Rattle.layout.specs.Same.{CellsSame, RingSame}
 use Rattle.layout.proofs.Stores.{cells-then, ring-then}
@@ -45,54 +46,54 @@ counter-number offered = omega arith
 counter-number accepted = omega arith
 counter-number notLearned = omega arith
 counter-number queued = omega arith
-counter-number state = omega arith
-counter-number queueOff = omega arith
+counter-number stateOut = omega arith
+counter-number queueOut = omega arith
 counter-number sent = omega arith
 counter-number drained = omega arith
 counter-number (reason r) = omega (arith, reason-number r)
 
 -- an event at one of the five ports
 abbrev pub AtPort : Event → Type 0
-AtPort e = portOf e < 5
+AtPort e = e .port < 5
 
 pub length-bumped : (p k : ℕ) (l : List ℕ) → length (bumped p k l) ≡ length l
 length-bumped p k l = length-set l (counterWord p k) _
 
 pub bump-stands : (l : List ℕ) (c : Counts) → 640 ≤ length l → (e : Event) → AtPort e → CountersStand l c
-    → CountersStand (bumped (portOf e) (counterNumber (counterOf e)) l) (bump e c)
+    → CountersStand (bumped (e .port) (counterNumber (e .counter)) l) (bump e c)
 unfolding bump bumps
 bump-stands l c enough e at h p k hp hk =
-    let number = counterNumber (counterOf e) in
-    let small = counter-number (counterOf e) in
-    on (eqb p (portOf e))
+    let number = counterNumber (e .counter) in
+    let small = counter-number (e .counter) in
+    on (eqb p (e .port))
     (λ same. on (eqb k number)
     (λ alike.
-    let s : p ≡ portOf e = eqb-true p (portOf e) same in
+    let s : p ≡ e .port = eqb-true p (e .port) same in
     let t : k ≡ number = eqb-true k number alike in
     rw (same, alike)
     (rw (s, t)
-    (counter-set l (portOf e) number _ enough at (omega arith)
-    ∙ ap (λ (x : ℕ). (x + 1) % 2 ^ 32) (h (portOf e) number at small))))
+    (counter-set l (e .port) number _ enough at (omega arith)
+    ∙ ap (λ (x : ℕ). (x + 1) % 2 ^ 32) (h (e .port) number at small))))
     (λ other.
-    let s : p ≡ portOf e = eqb-true p (portOf e) same in
+    let s : p ≡ e .port = eqb-true p (e .port) same in
     rw (same, other)
-    (rw s (counter-of-port-kept l (portOf e) number _ k (eqb-false k number other) ∙ h (portOf e) k at hk))))
+    (rw s (counter-of-port-kept l (e .port) number _ k (eqb-false k number other) ∙ h (e .port) k at hk))))
     (λ other. rw other
-    (counter-elsewhere-kept l (portOf e) number _ p k (eqb-false p (portOf e) other) (omega arith) (omega arith) ∙ h p k hp hk))
+    (counter-elsewhere-kept l (e .port) number _ p k (eqb-false p (e .port) other) (omega arith) (omega arith) ∙ h p k hp hk))
 
 pub length-counted : (es : List Event) (l : List ℕ) → length (counted es l) ≡ length l
 unfolding counted
 length-counted [] l = refl
 length-counted (e ∷ es) l =
-    length-counted es (bumped (portOf e) (counterNumber (counterOf e)) l) ∙ length-bumped (portOf e) (counterNumber (counterOf e)) l
+    length-counted es (bumped (e .port) (counterNumber (e .counter)) l) ∙ length-bumped (e .port) (counterNumber (e .counter)) l
 
 pub counted-stands : (es : List Event) → Each AtPort es → (l : List ℕ) (c : Counts) → 640 ≤ length l → CountersStand l c
     → CountersStand (counted es l) (tally es c)
 unfolding counted tally
 counted-stands [] at l c enough h = h
 counted-stands (e ∷ es) (also at more) l c enough h =
-    counted-stands es more (bumped (portOf e) (counterNumber (counterOf e)) l) (bump e c)
-    (omega (arith, length-bumped (portOf e) (counterNumber (counterOf e)) l, enough))
+    counted-stands es more (bumped (e .port) (counterNumber (e .counter)) l) (bump e c)
+    (omega (arith, length-bumped (e .port) (counterNumber (e .counter)) l, enough))
     (bump-stands l c enough e at h)
 
 -- ---- all else is kept
@@ -120,8 +121,8 @@ unfolding counted
 counted-keeps [] at l =
     record { words = record { word = λ w h f g. refl }; cells = cells-self l; rings = λ r. record { oldest = refl; count = refl; place = λ i. refl } }
 counted-keeps (e ∷ es) (also at more) l =
-    let one = bumped-keeps (portOf e) (counterNumber (counterOf e)) l at (counter-number (counterOf e)) in
-    let rest = counted-keeps es more (bumped (portOf e) (counterNumber (counterOf e)) l) in
+    let one = bumped-keeps (e .port) (counterNumber (e .counter)) l at (counter-number (e .counter)) in
+    let rest = counted-keeps es more (bumped (e .port) (counterNumber (e .counter)) l) in
     record {
       words = record { word = λ w h f g. rest .words .word w h f g ∙ one .words .word w h f g };
       cells = cells-then (one .cells) (rest .cells);

@@ -1,39 +1,54 @@
 -- Demand 3 on memory, from what the machine's histories hold and from memory that stands for the machine. Assumes nothing.
-use Prim.Native.Nat.{ℕ, _-_, _≤_, _<_}
+use Prim.Native.Nat.{ℕ, _+_, _-_, _%_, _^_, _≤_, _<_}
 use mathlib.Core.Path.{_≡_, refl, sym, ap, ap₂, _∙_, subst}
-use mathlib.Core.Bool.{true}
+use mathlib.Core.Bool.{Bool, true}
+use native.Mathlib.Omega.{arith}
 use mathlib.Core.List.{List, [], _∷_, _++_, map}
 use lib.Dec.{eqb}
+use lib.ListN.{length}
+use lib.Seq.{sets}
 use borrow.Author.Tests.{eqb-true, lt-ltb, le-ltb}
-use Rattle.rules.specs.Choice.{sift, among, Each, also}
+use Rattle.rules.specs.Choice.{if_then_else_, sift, among, Each, nobody, also}
+use Rattle.rules.specs.Numbers.{allPorts}
+use Rattle.rules.specs.Addresses.{Table}
+use Rattle.rules.specs.AddressTheorems.{entries}
+use Rattle.rules.specs.Counters.{outcomes, sumOver}
 use Rattle.rules.specs.Lines.{first}
-use Rattle.rules.specs.Refusals.{frameInLines}
-use Rattle.rules.specs.Arrival.{Packet, decide}
-use Rattle.rules.proofs.Choice.{on, and-right, each-back}
-use Rattle.machine.specs.Waiting.{Waiting, used, waitsAt, queueAt}
-use Rattle.machine.specs.Events.{putIn, takenOut}
-use Rattle.machine.specs.State.{State, Call, frameIn, done}
-use Rattle.machine.specs.FrameIn.{Outcome, drops, queues, outcomeOf, noRoomFor, outcomeAnswer, entered, frameInStep}
-use Rattle.machine.specs.Demands.{Came}
-use Rattle.machine.specs.Machine.{linesOf, act, unlessRefused, perform}
+use Rattle.rules.specs.Refusals.{Refusal, memoryLength, portAboveFour, outOfRange, groupAddress, shortBuffer, vlansInUse, vlanNotThere, placesInUse, addressNotThere, memoryDamaged, badRecord, refusalNumber, frameInLines}
+use Rattle.rules.specs.Outcomes.{Outcome, drops, queues, outcomeOf}
+use Rattle.rules.proofs.Choice.{on, onList, and-right, each-back, each-map, eqb-self}
+use Rattle.rules.proofs.PortTests.{among-sifted, among-port}
+use Rattle.machine.specs.Waiting.{Waiting, cellsInUse, waitsAt, queueAt}
+use Rattle.machine.specs.Events.{count, putIn, takenOut}
+use Rattle.rules.specs.Requests.{FrameInRequest, TakeRequest, CounterRequest}
+use Rattle.machine.specs.State.{State, freeCells, Call, frameIn, take, counter, age, Answer, refused, done}
+use Rattle.machine.specs.FrameIn.{factsAt, mask, outcomeAnswer, enters, frameInStep}
+use Rattle.machine.specs.Demands.{Came, Left}
+use Rattle.machine.specs.Machine.{linesOf, carryOut, unlessRefused, perform, next}
 use Rattle.machine.specs.History.{fresh, after, events}
 use Rattle.machine.proofs.Demands as Machine
+use Rattle.machine.proofs.Calls.{call-theorems}
 use Rattle.layout.specs.Places.{ringOfQueue}
 use Rattle.lent.specs.declared.Answer as Lent
 use Rattle.lent.specs.Answers.{doneWith}
-use Rattle.cells.specs.Chains.{one}
 use Rattle.cells.specs.Free.{freeCount}
 use Rattle.queues.specs.Rings.{ringOf}
 use Rattle.take_out.specs.Frames.{frameAt}
-use Rattle.standing.specs.LinkTraffic.{linksIn}
+use Rattle.settings.specs.CounterLaws.{counterAt}
+use Rattle.addresses.specs.Numbers.{tableOf}
+use Rattle.standing.specs.LinkTraffic.{linksIn, WaitsAs}
 use Rattle.standing.specs.Traffic.{HoldsFrame, Traffic}
 use Rattle.standing.proofs.Reading.{ring-is-queue}
 use Rattle.histories.specs.Memories.{Memories}
 use Rattle.histories.specs.Stands.{Stands}
-use Rattle.histories.specs.Demands.{ringFrames, MemoryHolds}
-use Rattle.histories.specs.Follows.{Handed, numbersOf}
+use Rattle.histories.specs.Runs.{run}
+use Rattle.histories.specs.Demands.{ringFrames, WaitingFrames, MemoryHolds}
+use Rattle.histories.specs.Follows.{Handed, numbersOf, handedBack}
 use Rattle.histories.proofs.FrameInRoom.{free-is}
 use Rattle.histories.proofs.FrameIn.{frame-in-follows}
+use Rattle.histories.proofs.Take.{take-follows}
+use Rattle.histories.proofs.AddressCalls.{age-follows}
+use Rattle.histories.proofs.SettingCalls.{counter-follows}
 
 -- ---- a ring's frames are its queue's
 
@@ -74,13 +89,41 @@ outcome-by-numbers (drops r) x y e =
 outcome-by-numbers (queues f ports) x y e =
     ap₂ (λ (a b : ℕ). done a b []) (ap (λ (a : Lent.Answer). a .x) e) (ap (λ (a : Lent.Answer). a .y) e)
 
-frame-in-by-numbers : (s : State) (p : ℕ) (k : Packet) → p ≤ 4 → (x y : ℕ) → numbersOf (perform s (frameIn p k) .answer) ≡ doneWith x y
-    → perform s (frameIn p k) .answer ≡ done x y []
-unfolding perform unlessRefused linesOf frameInLines first act frameInStep entered
-frame-in-by-numbers s p k hp x y =
-    rw (le-ltb 4 p hp) (outcome-by-numbers (outcomeOf (noRoomFor s) (decide (s .core .settings) (s .core .table) p k .fate)) x y)
+frame-in-by-numbers : (s : State) (c : FrameInRequest) → c .port ≤ 4 → (x y : ℕ) → numbersOf (perform s (frameIn c) .answer) ≡ doneWith x y
+    → perform s (frameIn c) .answer ≡ done x y []
+unfolding perform unlessRefused linesOf frameInLines first carryOut frameInStep enters
+frame-in-by-numbers s c hp x y =
+    rw (le-ltb 4 (c .port) hp) (outcome-by-numbers (outcomeOf (factsAt s (c .port) (c .packet))) x y)
 
 -- ---- all of it
+
+refusal-some : (r : Refusal) → refusalNumber r ≡ 0 → ⊥
+unfolding refusalNumber
+refusal-some memoryLength e = omega arith
+refusal-some portAboveFour e = omega arith
+refusal-some outOfRange e = omega arith
+refusal-some groupAddress e = omega arith
+refusal-some shortBuffer e = omega arith
+refusal-some vlansInUse e = omega arith
+refusal-some vlanNotThere e = omega arith
+refusal-some placesInUse e = omega arith
+refusal-some addressNotThere e = omega arith
+refusal-some memoryDamaged e = omega arith
+refusal-some badRecord e = omega arith
+
+sum-each : (f g : ℕ → ℕ) (ns : List ℕ) → Each (λ (k : ℕ). f k ≡ g k) ns → sumOver f ns ≡ sumOver g ns
+unfolding sumOver
+sum-each f g [] nobody = refl
+sum-each f g (k ∷ ks) (also h t) = omega (arith, h, sum-each f g ks t)
+
+outcomes-low : {P : ℕ → Type 0} → ((k : ℕ) → k ≤ 20 → P k) → Each P outcomes
+unfolding outcomes
+outcomes-low h =
+    also (h 1 (omega arith)) (also (h 2 (omega arith)) (also (h 3 (omega arith)) (also (h 4 (omega arith)) (also (h 5 (omega arith)) (also (h 6 (omega arith)) (also (h 7 (omega arith))
+    (also (h 8 (omega arith)) (also (h 9 (omega arith)) (also (h 10 (omega arith)) (also (h 11 (omega arith)) (also (h 12 (omega arith)) (also (h 13 (omega arith)) (also (h 14 (omega arith)) nobody)))))))))))))
+
+port-below : (p : ℕ) → among p allPorts ≡ true → p < 5
+port-below p h = omega (arith, among-port p h)
 
 module _ (n : ℕ) (m : Memories) (cs : List Call) (S : Stands m (after (fresh n) cs)) (same : after (fresh n) cs .cellCount ≡ n) where
   abbrev s : State
@@ -94,24 +137,98 @@ module _ (n : ℕ) (m : Memories) (cs : List Call) (S : Stands m (after (fresh n
       Machine.holds n cs .queues p q
       ∙ ap (takenOut p q (events (fresh n) cs) ++_) (sym (ring-frames n m (s .core .waiting) traffic p q hp hq))
 
-  free : freeCount (m .links) ≡ n - used (s .core .waiting)
-  free = free-is m s S ∙ ap (λ (c : ℕ). c - used (s .core .waiting)) same
+  free : freeCount (m .links) ≡ n - cellsInUse (s .core .waiting)
+  unfolding freeCells
+  free = free-is m s S ∙ ap (λ (c : ℕ). c - cellsInUse (s .core .waiting)) same
+
+  -- ---- the waiting frames
+
+  in-a-queue : (c : ℕ) (w : Waiting) → WaitsAs n (m .links) c w → (p : ℕ) × (q : ℕ) × (p < 5) × (q < 4) × (waitsAt p q w ≡ true)
+  unfolding waitsAt mask among
+  in-a-queue c w h =
+      onList (w .ports)
+      (λ e. absurd (let z : 1 ≤ mask [] = rw e at (h .somewhere) in omega arith))
+      (λ p ps e. (p, w .frame .queue, low p ps e, h .low, rw (e, eqb-self p, eqb-self (w .frame .queue))))
+    where
+      low : (p : ℕ) (ps : List ℕ) → w .ports ≡ p ∷ ps → p < 5
+      low p ps e = port-below p (among-sifted p (λ r. among r (w .ports)) allPorts (sym (ap (among p) (h .ascending)) ∙ (rw e (rw (eqb-self p)))) .0)
+
+  waiting-frames : WaitingFrames n m (s .core .waiting)
+  unfolding linksIn
+  waiting-frames =
+      let L = traffic .links-stand in
+      record {
+        firsts = L .stands .ids;
+        held = L .held;
+        are = L .stands .holds;
+        stored = each-map (λ c h. h .frame) (traffic .frames);
+        in-rings = L .stands .rings;
+        in-a-queue = each-map (λ c h. in-a-queue c (L .held c) h) (L .waits);
+        ports-said = each-map (λ c h. h .said) (L .waits);
+        one-chain = each-map (λ c h. h .sized) (L .stands .rows);
+        cells-once = λ c h. L .stands .cells c ∙ ap (λ (b : Bool). if b then 1 else 0) (lt-ltb c n h);
+      }
+
+  -- ---- a take's numbers tell its answer
+
+  done-by-numbers : (a : Answer) (x y : ℕ) → numbersOf a ≡ doneWith x y → (out : List ℕ) × (a ≡ done x y out)
+  unfolding numbersOf
+  done-by-numbers (refused r) x y e = absurd (refusal-some r (ap (λ (b : Lent.Answer). b .refusal) e))
+  done-by-numbers (done x′ y′ out) x y e =
+      (out, ap₂ (λ (a b : ℕ). done a b out) (ap (λ (b : Lent.Answer). b .x) e) (ap (λ (b : Lent.Answer). b .y) e))
+
+  left : (c : TakeRequest) (buffer : List ℕ) → c .buffer ≡ length buffer → (x y : ℕ) → run m (take c) buffer .answer ≡ doneWith x y → 1 ≤ x
+      → (out : List ℕ) × (run m (take c) buffer .buffer ≡ sets buffer 0 out) × Left n cs (c .port) x y out
+  unfolding Handed handedBack
+  left c buffer long x y e some-x =
+      let f = take-follows c m s S buffer long in
+      let a = done-by-numbers (perform s (take c) .answer) x y (sym (f .same-answer) ∙ e) in
+      (a .0, f .same-bytes ∙ ap (λ (b : Answer). sets buffer 0 (handedBack b)) (a .1), Machine.holds n cs .leaves c x y (a .0) (a .1) some-x)
+
+  -- ---- counters and addresses
+
+  counted : (p k : ℕ) → p < 5 → k ≤ 20 → counterAt (m .links) p k ≡ s .counters p k
+  counted p k hp hk = S .counters p k hp hk
+
+  counter-sum : (p : ℕ) → p < 5 → counterAt (m .links) p 0 ≡ sumOver (λ k. counterAt (m .links) p k) outcomes % 2 ^ 32
+  counter-sum p hp =
+      counted p 0 hp (omega arith)
+      ∙ Machine.holds n cs .offered p
+      ∙ ap (λ (x : ℕ). x % 2 ^ 32) (sym (sum-each (λ k. counterAt (m .links) p k) (λ k. s .counters p k) outcomes (outcomes-low (λ k h. counted p k hp h))))
+
+  counter-answers : (c : CounterRequest) (buffer : List ℕ) → c .port ≤ 4 → c .number ≤ 20
+      → run m (counter c) buffer .answer ≡ doneWith (count (c .port) (c .number) (events (fresh n) cs) % 2 ^ 32) 0
+  unfolding Handed numbersOf
+  counter-answers c buffer low small = counter-follows c m s S buffer tt .same-answer ∙ ap numbersOf (Machine.holds n cs .counter-answers c low small)
+
+  age-answers : (buffer : List ℕ) → (x : ℕ) × (run m age buffer .answer ≡ doneWith x 0)
+      × (x + entries (tableOf (run m age buffer .memories .addresses)) 4112 ≡ entries (tableOf (m .addresses)) 4112)
+  unfolding Handed numbersOf next
+  age-answers buffer =
+      let f = age-follows m s S buffer tt in
+      let a = call-theorems .others .age-answers s in
+      (a .0, f .same-answer ∙ ap numbersOf (a .1), ap (λ (t : Table). a .0 + entries t 4112) (f .stands-kept .addresses .says) ∙ a .2 ∙ ap (λ (t : Table). entries t 4112) (sym (S .addresses .says)))
 
   pub memory-holds : MemoryHolds n m cs
   unfolding Handed numbersOf
   memory-holds =
       record {
-        cells-once = λ c h. traffic .links-stand .sound .once c ∙ ap one (lt-ltb c n h);
+        waiting = waiting-frames;
         rings = rings;
-        bytes = λ p q hp hq.
+        came = λ p q hp hq.
             each-back (takenOut p q (events (fresh n) cs)) (ringFrames n m p q)
-            (subst (Each (Came cs)) (rings p q hp hq) (Machine.holds n cs .packets p q));
+            (subst (Each (Came (fresh n) cs p)) (rings p q hp hq) (Machine.holds n cs .came p q));
+        left = left;
         free = free;
-        room = λ p k buffer hp each passed.
-            let answer = frame-in-follows p k m s S buffer each .same-answer in
-            let exactly = Machine.holds n cs .room p k hp passed in (
-              λ e. rw (sym free) at (exactly .0 (frame-in-by-numbers s p k hp 13 0 (sym answer ∙ e))),
+        room = λ c buffer hp each past r hr passes.
+            let answer = frame-in-follows c m s S buffer each .same-answer in
+            let exactly = Machine.holds n cs .room c hp past r hr passes in (
+              λ e. rw (sym free) at (exactly .0 (frame-in-by-numbers s c hp 13 0 (sym answer ∙ e))),
               λ h. answer ∙ ap numbersOf (exactly .1 (rw free at h)),
             );
         counters = λ p k hp hk. S .counters p k hp hk ∙ Machine.holds n cs .counters p k;
+        counter-answers = counter-answers;
+        counter-sum = counter-sum;
+        one-entry = rw (S .addresses .says) (Machine.holds n cs .addresses);
+        age-answers = age-answers;
       }

@@ -8,7 +8,7 @@ use lib.ListN.{length}
 use Rattle.rules.specs.Choice.{Each, nobody, also}
 use Rattle.rules.proofs.Choice.{on}
 use Rattle.machine.specs.Waiting.{send}
-use Rattle.machine.specs.Events.{Event, portOf, counterOf, bump, tally}
+use Rattle.machine.specs.Events.{Event, bump, tally}
 use Rattle.machine.specs.State.{State, setWaiting}
 use Rattle.layout.specs.Places.{ringOfQueue}
 use Rattle.layout.specs.Same.{SettingsSame}
@@ -38,7 +38,7 @@ departed-settings p i links =
 -- the oldest copy of queue (p, q), whose first cell is i, is gone, and the event is counted
 abbrev pub memoriesAfter : Memories → ℕ → ℕ → ℕ → ℕ → Event → Memories
 memoriesAfter m n p q i e =
-    record { cells = m .cells; links = left n p q (counterOf e) (departed p i (m .links)); addresses = m .addresses }
+    record { cells = m .cells; links = left n p q (e .counter) (departed p i (m .links)); addresses = m .addresses }
 
 abbrev pub stateAfter : State → ℕ → ℕ → Event → State
 stateAfter s p q e =
@@ -67,14 +67,14 @@ module _ (m : Memories) (s : State) (S : Stands m s) (p q i : ℕ) (hp : p < 5) 
   enough : 640 ≤ length gone
   enough = omega (arith, gone-traffic .links-stand .long)
 
-  module _ (e : Event) (here : portOf e ≡ p) where
+  module _ (e : Event) (here : e .port ≡ p) where
     abbrev at-port : Each AtPort (e ∷ [])
     at-port = also {a = e} (rw here hp) nobody
 
     abbrev after : List ℕ
     after = counted (e ∷ []) gone
 
-    counted-left : left n p q (counterOf e) (departed p i (m .links)) ≡ after
+    counted-left : left n p q (e .counter) (departed p i (m .links)) ≡ after
     unfolding left counted
     counted-left = rw here
 

@@ -13,7 +13,7 @@ use Rattle.rules.proofs.Choice.{on, each-first}
 use Rattle.rules.proofs.Lines.{holds-none}
 use Rattle.machine.specs.State.{State, drain}
 use Rattle.machine.specs.TakeOut.{drainStep}
-use Rattle.machine.specs.Machine.{linesOf, act, next}
+use Rattle.machine.specs.Machine.{linesOf, carryOut, next}
 use Rattle.lent.specs.Lengths.{cellCount}
 use Rattle.lent.specs.Answers.{doneWith}
 use Rattle.take_out.specs.Drain.{canDrainAll, drainAll, copies, drainRefusals, drainCall}
@@ -65,8 +65,8 @@ module _ (p : ℕ) (m : Memories) (s : State) (S : Stands m s) where
         all-stands
 
     drains : (buffer : List ℕ)
-        → Follows (onLinks m buffer (doneWith (copies p (m .links)) 0, drainAll (cellCount (m .links)) p (m .links))) buffer s (act s (drain p))
-    unfolding act numbersOf handedBack drainStep
+        → Follows (onLinks m buffer (doneWith (copies p (m .links)) 0, drainAll (cellCount (m .links)) p (m .links))) buffer s (carryOut s (drain p))
+    unfolding carryOut numbersOf handedBack drainStep
     drains buffer =
         record {
           same-answer = ap (λ (k : ℕ). doneWith k 0) (copies-are (s .cellCount) (m .links) (s .core .waiting) (S .traffic .links-stand) p hp);

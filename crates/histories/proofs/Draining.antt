@@ -6,10 +6,10 @@ use mathlib.Core.List.{List, _∷_}
 use native.Mathlib.Omega.{arith}
 use lib.ListN.{length}
 use Rattle.rules.specs.Counters as Counters
-use Rattle.rules.specs.Arrival.{Frame}
+use Rattle.rules.specs.Outcomes.{Frame}
 use Rattle.rules.proofs.Choice.{onList, each-first}
 use Rattle.machine.specs.Waiting.{queueAt, send}
-use Rattle.machine.specs.Events.{drained, portOf, counterOf}
+use Rattle.machine.specs.Events.{drains}
 use Rattle.machine.specs.State.{State, setWaiting}
 use Rattle.layout.specs.Places.{ringOfQueue}
 use Rattle.queues.specs.Rings.{ringOf}
@@ -63,11 +63,10 @@ module _ (p q : ℕ) (hp : p < 5) (hq : q < 4) where
         (rw (each-first (rw head at (can-leave n (m .links) (s .core .waiting) T p hp q hq))))
 
     one-stands : Stands (withLinks m (drainOne n p q (m .links))) (oneLess p q s)
-    unfolding portOf counterOf
     one-stands =
         let f : Frame = T .held i .frame in
         rw (one-is, ← (bump-drained p f (s .counters)))
-        (departing m s S p q i hp hq tail head (drained p f) refl)
+        (departing m s S p q i hp hq tail head (drains p f) refl)
 
   -- ---- so many copies
 

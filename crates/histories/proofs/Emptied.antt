@@ -9,7 +9,7 @@ use lib.ListN.{length}
 use Rattle.rules.specs.Choice.{Each}
 use Rattle.rules.proofs.Choice.{onList}
 use Rattle.machine.specs.Waiting.{portAt, queueAt, drain}
-use Rattle.machine.specs.Events.{drained, tally, Counts}
+use Rattle.machine.specs.Events.{drains, tally, Counts}
 use Rattle.machine.specs.State.{State}
 use Rattle.standing.specs.TrafficTheorems.{Somewhere}
 use Rattle.standing.proofs.Reading.{drain-empty}
@@ -74,7 +74,7 @@ module _ (p : ℕ) where
         ∙ emptied-drain 3 s
 
     pub emptied-counters : Each InQueue (s .core .waiting)
-        → allEmptied .counters ≡ tally (map (λ f. drained p f) (portAt p (s .core .waiting))) (s .counters)
+        → allEmptied .counters ≡ tally (map (λ f. drains p f) (portAt p (s .core .waiting))) (s .counters)
     emptied-counters low =
         let k₃ : ℕ = waitingAt 3 s in
         let k₂ : ℕ = waitingAt 2 s₃ in

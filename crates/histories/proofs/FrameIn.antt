@@ -1,7 +1,7 @@
 -- A frame-in over memory follows the machine's. Assumes nothing.
 use Prim.Native.Nat.{ℕ, _≤_}
-use mathlib.Core.Path.{_≡_, refl, sym, ap, ap₂, _∙_}
-use mathlib.Core.Bool.{true, _&&_}
+use mathlib.Core.Path.{_≡_, refl, sym, ap₂, _∙_}
+use mathlib.Core.Bool.{Bool, true, _&&_}
 use mathlib.Core.List.{List, [], _∷_, _++_}
 use native.Mathlib.Omega.{arith}
 use lib.Dec.{ltb}
@@ -10,17 +10,18 @@ use borrow.Author.Tests.{ltb-false}
 use Rattle.rules.specs.Choice.{Each}
 use Rattle.rules.specs.Lines.{first}
 use Rattle.rules.specs.Tags.{Bytes}
-use Rattle.rules.specs.Settings.{Settings}
 use Rattle.rules.specs.Addresses.{Table}
 use Rattle.rules.specs.Refusals.{frameInLines}
-use Rattle.rules.specs.Arrival.{Packet, Verdict, decide}
+use Rattle.rules.specs.Facts.{Facts, factsOf}
+use Rattle.rules.specs.Outcomes.{Outcome, drops, queues, outcomeOf, tableAfter, isNotLearned}
 use Rattle.rules.proofs.Choice.{on, each-first}
 use Rattle.rules.proofs.Lines.{holds-none}
 use Rattle.machine.specs.Events.{Event, tally}
+use Rattle.rules.specs.Requests.{FrameInRequest}
 use Rattle.machine.specs.State.{State, frameIn, Step, setTable, setWaiting}
-use Rattle.machine.specs.FrameIn.{noRoomFor, Outcome, drops, queues, outcomeOf, frameInEvents, outcomeAnswer, outcomeWaiting, frameInStep}
+use Rattle.machine.specs.FrameIn.{factsAt, frameInEvents, outcomeAnswer, outcomeWaiting, frameInStep}
 use Rattle.machine.specs.FrameIn as Machine
-use Rattle.machine.specs.Machine.{linesOf, act, next}
+use Rattle.machine.specs.Machine.{linesOf, carryOut, next}
 use Rattle.lent.specs.Lengths.{cellCount, linksFit, cellsFit, addressesFit}
 use Rattle.lent.specs.Fits.{links-fit}
 use Rattle.lent.specs.Answers.{lengthLine, damageLine}
@@ -29,7 +30,7 @@ use Rattle.addresses.specs.Numbers.{tableOf}
 use Rattle.standing.specs.Traffic.{Traffic}
 use Rattle.frame_in.specs.Met.{met}
 use Rattle.frame_in.specs.Counting.{counted}
-use Rattle.frame_in.specs.Call.{verdictOf, outcomeFor, storedFor, joinedFor, answerFor, enteredAs, entered, frameInCall}
+use Rattle.frame_in.specs.Call.{factsIn, storedFor, joinedFor, answerFor, entered, frameInCall}
 use Rattle.frame_in.proofs.Theorems.{frame-in-theorems}
 use Rattle.histories.specs.Memories.{Memories}
 use Rattle.histories.specs.Stands.{CountersStand, Stands}
@@ -39,7 +40,6 @@ use Rattle.histories.proofs.Answers.{lines-between, follows-by}
 use Rattle.histories.proofs.Kept.{SettingWords, fit-same, traffic-same, cell-count-same, settings-same, same-words, counters-same}
 use Rattle.histories.proofs.Counting.{AtPort, counted-stands, counted-keeps, length-counted}
 use Rattle.histories.proofs.FrameInRoom.{free-is, meets-in-range}
-use Rattle.histories.proofs.FrameInFrames.{offer-fitted}
 use Rattle.histories.proofs.FrameInPorts.{events-at}
 use Rattle.histories.proofs.FrameInOutcomes.{Carries, carries-inside, outcome-carries, joined-settings, joined-length, stored-length, joined-traffic}
 use Rattle.histories.proofs.FrameInAddresses.{learned-stands}
@@ -56,44 +56,44 @@ unfolding handedBack outcomeAnswer
 none-back (drops r) = refl
 none-back (queues f ports) = refl
 
-module _ (m : Memories) (s : State) (S : Stands m s) (p : ℕ) (k : Packet) (each : Bytes (k .bytes)) where
-  abbrev verdict : Verdict
-  verdict = verdictOf (m .links) (m .addresses) p (k .bytes)
+module _ (m : Memories) (s : State) (S : Stands m s) (c : FrameInRequest) (each : Bytes (c .packet .bytes)) where
+  abbrev facts : Facts
+  facts = factsIn (m .links) (m .addresses) (c .port) (c .packet .bytes)
 
   abbrev outcome : Outcome
-  outcome = outcomeFor (m .links) verdict
+  outcome = outcomeOf facts
+
+  abbrev unlearned : Bool
+  unlearned = isNotLearned facts (tableOf (m .addresses))
 
   abbrev happened : List Event
-  happened = frameInEvents p verdict outcome
+  happened = frameInEvents facts unlearned
 
-  -- ---- what is decided is what the machine decides
+  -- ---- the facts are those that the machine has
 
-  verdict-same : verdict ≡ decide (s .core .settings) (s .core .table) p k
-  unfolding verdictOf
-  verdict-same = ap₂ (λ (x : Settings) (t : Table). decide x t p k) (S .settings .says) (S .addresses .says)
+  facts-same : facts ≡ factsAt s (c .port) (c .packet)
+  unfolding factsIn factsAt
+  facts-same = rw (S .settings .says, S .addresses .says, free-is m s S)
 
-  outcome-same : outcome ≡ outcomeOf (noRoomFor s) (verdict .fate)
-  unfolding outcomeFor noRoomFor
-  outcome-same = rw (free-is m s S)
-
-  abbrev stepBy : Outcome → Step
-  stepBy o =
+  abbrev stepOf : Facts → Table → Step
+  stepOf f t =
       record {
-        answer = outcomeAnswer o;
-        events = frameInEvents p verdict o;
-        core = setTable (verdict .table) (setWaiting (outcomeWaiting o (s .core .waiting)) (s .core));
+        answer = outcomeAnswer (outcomeOf f);
+        events = frameInEvents f (isNotLearned f t);
+        core = setTable (tableAfter f t) (setWaiting (outcomeWaiting (outcomeOf f) (s .core .waiting)) (s .core));
       }
 
-  step-same : frameInStep s p k ≡ stepBy outcome
-  unfolding frameInStep Machine.entered
-  step-same = ap (Machine.entered s p) (sym verdict-same) ∙ ap stepBy (sym outcome-same)
+  step-same : frameInStep s c ≡ stepOf facts (tableOf (m .addresses))
+  unfolding frameInStep Machine.enters
+  step-same = ap₂ stepOf (sym facts-same) (sym (S .addresses .says))
 
-  module _ (there : p ≤ 4) where
+  port-is : facts .port ≡ c .port
+  unfolding factsIn factsOf
+  port-is = refl
+
+  module _ (there : c .port ≤ 4) where
     carries : Carries (m .links) outcome
-    unfolding outcomeFor verdictOf
-    carries =
-        outcome-carries (m .links) (verdict .fate)
-        (λ f test e. offer-fitted (m .links) (m .addresses) (meets-in-range m s S) p there k each (tableOf (m .addresses)) f test e)
+    carries = outcome-carries (m .links) (m .addresses) (meets-in-range m s S) (c .port) there (c .packet .bytes) each
 
     -- ---- link memory: the frame joined, then the events counted
 
@@ -104,7 +104,7 @@ module _ (m : Memories) (s : State) (S : Stands m s) (p : ℕ) (k : Packet) (eac
     after = counted happened joined
 
     at-ports : Each AtPort happened
-    at-ports = events-at p there verdict outcome (carries-inside (m .links) outcome carries)
+    at-ports = events-at facts (rw port-is there) unlearned (carries-inside (m .links) outcome carries)
 
     joined-apart : SettingsSame (m .links) joined
     joined-apart = joined-settings (cellCount (m .links)) (m .links) outcome carries
@@ -138,8 +138,8 @@ module _ (m : Memories) (s : State) (S : Stands m s) (p : ℕ) (k : Packet) (eac
 
     -- ---- the call
 
-    enters : (buffer : List ℕ) → Follows (onAll buffer (entered p (k .bytes) (m .cells) (m .links) (m .addresses))) buffer s (frameInStep s p k)
-    unfolding entered enteredAs next
+    enters : (buffer : List ℕ) → Follows (onAll buffer (entered (c .port) (c .packet .bytes) (m .cells) (m .links) (m .addresses))) buffer s (frameInStep s c)
+    unfolding entered next
     enters buffer =
         rw step-same
         (record {
@@ -150,7 +150,7 @@ module _ (m : Memories) (s : State) (S : Stands m s) (p : ℕ) (k : Packet) (eac
             cells-fit = cells-fit-after;
             cell-count = cell-count-same words ∙ S .cell-count;
             settings = settings-same words (s .core .settings) (S .settings);
-            addresses = learned-stands (m .links) (m .addresses) (meets-in-range m s S) (S .addresses .fit) p there (k .bytes) each;
+            addresses = learned-stands (m .links) (m .addresses) (meets-in-range m s S) (S .addresses .fit) (c .port) there (c .packet .bytes) each;
             counters = counters-after;
             traffic = traffic-after;
           };
@@ -158,20 +158,24 @@ module _ (m : Memories) (s : State) (S : Stands m s) (p : ℕ) (k : Packet) (eac
 
   -- ---- the lines: with the port line before it, refusal 10 is asked of a port that there is
 
-  lines-same : first (lengthLine (linksFit (m .links) && (cellsFit (m .cells) (m .links) && addressesFit (m .addresses))) ∷ (frameInLines p ++ (damageLine (met (m .links) (m .addresses) p (k .bytes)) ∷ [])))
-      ≡ first (frameInLines p)
+  lines-same : first (lengthLine (linksFit (m .links) && (cellsFit (m .cells) (m .links) && addressesFit (m .addresses))) ∷ (frameInLines (c .port) ++ (damageLine (met (m .links) (m .addresses) (c .port) (c .packet .bytes)) ∷ [])))
+      ≡ first (frameInLines (c .port))
   unfolding frameInLines first
   lines-same =
       let fits : linksFit (m .links) && (cellsFit (m .cells) (m .links) && addressesFit (m .addresses)) ≡ true =
       rw (S .links-fit, S .cells-fit, S .addresses .fit) refl in
-      on (ltb 4 p)
+      on (ltb 4 (c .port))
       (λ e. rw (fits, e))
-      (λ e. lines-between (frameInLines p) fits
-      (frame-in-theorems (m .links) (m .addresses) (k .bytes) p each (ltb-false 4 p e) .meets-none (meets-in-range m s S)))
+      (λ e. lines-between (frameInLines (c .port)) fits
+      (frame-in-theorems (m .links) (m .addresses) (c .packet .bytes) (c .port) each (ltb-false 4 (c .port) e) .meets-none (meets-in-range m s S)))
 
-pub frame-in-follows : (p : ℕ) (k : Packet) → CallFollows (frameIn p k)
-unfolding run frameInCall linesOf act Handed frameInLines
-frame-in-follows p k m s S buffer each =
-    follows-by m s S (frameIn p k) buffer (m .cells, m .links, m .addresses) (entered p (k .bytes) (m .cells) (m .links) (m .addresses)) (onAll buffer)
-    (λ r. refl) _ (lines-same m s S p k each)
-    (λ e. enters m s S p k each (ltb-false 4 p (each-first (holds-none (frameInLines p) e))) buffer)
+pub frame-in-follows : (c : FrameInRequest) → CallFollows (frameIn c)
+unfolding run frameInCall linesOf carryOut Handed frameInLines
+frame-in-follows c m s S buffer each =
+    follows-by m s S (frameIn c) buffer (m .cells, m .links, m .addresses)
+    (entered (c .port) (c .packet .bytes) (m .cells) (m .links) (m .addresses))
+    (onAll buffer)
+    (λ r. refl)
+    _
+    (lines-same m s S c each)
+    (λ e. enters m s S c each (ltb-false 4 (c .port) (each-first (holds-none (frameInLines (c .port)) e))) buffer)

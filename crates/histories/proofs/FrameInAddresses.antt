@@ -1,4 +1,4 @@
--- Address memory after a frame-in stands for the table of the rules' verdict. Assumes nothing.
+-- Address memory after a frame-in stands for the table that the rules leave. Assumes nothing.
 use Prim.Native.Nat.{ℕ, _^_, _≤_, _<_}
 use mathlib.Core.Path.{_≡_, _∙_}
 use mathlib.Core.Bool.{true}
@@ -7,12 +7,12 @@ use native.Mathlib.Omega.{arith}
 use lib.ListN.{length}
 use Rattle.rules.specs.Tags.{Bytes, isGroup, destination, source}
 use Rattle.rules.specs.Addresses.{key}
-use Rattle.rules.specs.Arrival.{vlanFor}
+use Rattle.rules.specs.Facts.{factsOf}
+use Rattle.rules.specs.Outcomes.{learns, tableAfter}
 use Rattle.rules.proofs.Choice.{on}
 use Rattle.lent.specs.Lengths.{addressesFit}
 use Rattle.lent.specs.Fits.{addresses-fit}
-use Rattle.settings.specs.SettingsOf.{settingsOf}
-use Rattle.addresses.specs.Numbers.{allInRange}
+use Rattle.addresses.specs.Numbers.{tableOf, allInRange}
 use Rattle.addresses.specs.Search.{lookUp}
 use Rattle.addresses.specs.Writes.{markedBy}
 use Rattle.addresses.proofs.LookUps.{mark-keeps}
@@ -20,7 +20,7 @@ use Rattle.addresses.proofs.Steps.{range-theorems}
 use Rattle.addresses.proofs.Frames.{length-theorems}
 use Rattle.frame_in.specs.InRange.{InRange}
 use Rattle.frame_in.specs.Candidates.{destinationLookUp}
-use Rattle.frame_in.specs.Call.{verdictOf, isLearned, lessonIn, learnedIn}
+use Rattle.frame_in.specs.Call.{factsIn, lessonIn, learnedIn}
 use Rattle.frame_in.proofs.Lessons.{address-below}
 use Rattle.frame_in.proofs.Theorems.{frame-in-theorems}
 use Rattle.histories.specs.Stands.{AddressesStand}
@@ -52,11 +52,15 @@ module _ (addresses : List ℕ) (good : allInRange addresses ≡ true) (long : l
 module _ (links addresses : List ℕ) (good : InRange links addresses) (fit : addressesFit addresses ≡ true)
     (port : ℕ) (there : port ≤ 4) (frame : List ℕ) (each : Bytes frame) where
   abbrev gid : ℕ
-  gid = vlanFor (settingsOf links) port frame .gid
+  gid = factsIn links addresses port frame .gid
+
+  gid-small : gid ≤ 15
+  unfolding factsIn factsOf
+  gid-small = vlan-fits links addresses good _ .gid
 
   small : key gid (source frame) < 2 ^ 52
   unfolding key source
-  small = omega (arith, vlan-fits links addresses good port frame .gid, address-below frame 6 each)
+  small = omega (arith, gid-small, address-below frame 6 each)
 
   long : length addresses ≡ 4112
   long = addresses-fit addresses fit
@@ -64,18 +68,18 @@ module _ (links addresses : List ℕ) (good : InRange links addresses) (fit : ad
   learned-long : length (learnedIn links addresses port frame) ≡ length addresses
   unfolding learnedIn
   learned-long =
-      on (isLearned (settingsOf links) port frame)
+      on (learns (factsIn links addresses port frame))
       (λ e. rw e (lesson-long addresses (good .places) long gid port frame there small))
       (λ e. rw e)
 
   learned-in-range : allInRange (learnedIn links addresses port frame) ≡ true
   unfolding learnedIn
   learned-in-range =
-      on (isLearned (settingsOf links) port frame)
+      on (learns (factsIn links addresses port frame))
       (λ e. rw e (lesson-in-range addresses (good .places) long gid port frame there small))
       (λ e. rw e (good .places))
 
-  pub learned-stands : AddressesStand (learnedIn links addresses port frame) (verdictOf links addresses port frame .table)
+  pub learned-stands : AddressesStand (learnedIn links addresses port frame) (tableAfter (factsIn links addresses port frame) (tableOf addresses))
   unfolding addressesFit
   learned-stands =
       let theorems = frame-in-theorems links addresses frame port each there in

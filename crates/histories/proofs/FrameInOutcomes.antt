@@ -2,22 +2,23 @@
 -- Assumes nothing.
 use Prim.Native.Nat.{ℕ, _≤_}
 use mathlib.Core.Path.{_≡_, refl, _∙_}
-use mathlib.Core.Bool.{Bool, true, false, true≢false}
+use mathlib.Core.Bool.{false, true≢false}
 use mathlib.Core.List.{List, _∷_, _++_}
 use mathlib.Core.Option.{none}
 use native.Mathlib.Omega.{arith}
-use lib.Dec.{ltb}
 use lib.ListN.{length}
 use borrow.Author.Tests.{ltb-false}
-use Rattle.rules.specs.Choice.{sift, among, Distinct, Each}
-use Rattle.rules.specs.Lines.{first}
+use Rattle.rules.specs.Choice.{sift, among, Distinct, Each, isNone}
 use Rattle.rules.specs.Cells.{cells, longest}
-use Rattle.rules.specs.PortTests.{Test, allPorts, portsLeft}
-use Rattle.rules.specs.Arrival.{Frame, Fate, drop, offer}
-use Rattle.rules.proofs.Choice.{onList, onOption, each-first, each-rest}
-use Rattle.rules.proofs.Lines.{holds-none}
+use Rattle.rules.specs.Tags.{Bytes}
+use Rattle.rules.specs.PortTests.{portsLeft}
+use Rattle.rules.specs.Numbers.{allPorts}
+use Rattle.rules.specs.Facts.{Facts, factsOf}
+use Rattle.rules.specs.ReasonTable.{reasonFor}
+use Rattle.rules.specs.Outcomes.{Frame, frameOf, Outcome, drops, queues, outcomeBy, outcomeOf}
+use Rattle.rules.proofs.Choice.{onList, onOption}
 use Rattle.machine.specs.Waiting.{Waiting, size}
-use Rattle.machine.specs.FrameIn.{mask, isNone, roomRules, Outcome, drops, queues, outcomeBy, outcomeOf, outcomeWaiting}
+use Rattle.machine.specs.FrameIn.{mask, outcomeWaiting}
 use Rattle.layout.specs.Same.{SettingsSame}
 use Rattle.layout.proofs.Stores.{settings-then}
 use Rattle.cells.specs.Chains.{follow}
@@ -31,8 +32,9 @@ use Rattle.standing.proofs.Masks.{mask-left}
 use Rattle.standing.proofs.Pushes.{settings-self, pushed-length, pushed-settings-all}
 use Rattle.standing.proofs.Frames.{arrival-keeps}
 use Rattle.frame_in.specs.Stored.{storedHeader}
-use Rattle.frame_in.specs.Call.{storedFor, joinedFor}
-use Rattle.histories.proofs.FrameInFrames.{Fitted}
+use Rattle.frame_in.specs.InRange.{InRange}
+use Rattle.frame_in.specs.Call.{factsIn, storedFor, joinedFor}
+use Rattle.histories.proofs.FrameInFrames.{Fitted, not-dropped, queued-fitted}
 use Rattle.histories.proofs.FrameInPorts.{Inside, PortsInside, left-inside, left-distinct, left-ascending}
 
 -- a frame for which there is room, and its ports
@@ -54,41 +56,36 @@ pub carries-inside : (links : List ℕ) (o : Outcome) → Carries links o → Po
 carries-inside links (drops r) c = tt
 carries-inside links (queues f ports) c = c .inside
 
--- ---- 12 and 13 do not hold
+-- ---- 12 and 13 do not hold of a frame that is queued
 
-module _ (links : List ℕ) (f : Frame) (test : ℕ → Test) (fitted : Fitted f) where
-  abbrev outnumbered : Bool
-  outnumbered = ltb (freeCount links) (size f)
+module _ (links addresses : List ℕ) (good : InRange links addresses) (p : ℕ) (there : p ≤ 4) (bytes : List ℕ) (each : Bytes bytes) where
+  abbrev facts : Facts
+  facts = factsIn links addresses p bytes
 
-  left-joins : first (roomRules outnumbered (portsLeft test)) ≡ none → Joins links f (portsLeft test)
-  unfolding roomRules isNone
-  left-joins e =
-      let fails = holds-none (roomRules outnumbered (portsLeft test)) e in
-      onList (portsLeft test)
-      (λ h. absurd (true≢false (rw h at (each-first fails))))
+  enough-free : facts .outnumbers ≡ false → size (frameOf facts) ≤ freeCount links
+  unfolding factsIn factsOf frameOf size
+  enough-free room = ltb-false (freeCount links) (cells (length bytes)) room
+
+  queued-joins : reasonFor facts ≡ none → Joins links (frameOf facts) (portsLeft (facts .test))
+  unfolding isNone
+  queued-joins e =
+      let kept = not-dropped facts e in
+      onList (portsLeft (facts .test))
+      (λ h. absurd (true≢false (rw h at (kept .port-left))))
       (λ r rs h. record {
-        fitted = fitted;
-        enough = ltb-false (freeCount links) (size f) (each-first (each-rest fails));
+        fitted = queued-fitted links addresses good p there bytes each e;
+        enough = enough-free (kept .room);
         lowest = r;
         more = rs;
         are = h;
-        inside = left-inside test;
-        distinct = left-distinct test;
-        ascending = left-ascending test;
+        inside = left-inside (facts .test);
+        distinct = left-distinct (facts .test);
+        ascending = left-ascending (facts .test);
       })
 
-  offer-carries : Carries links (outcomeBy (first (roomRules outnumbered (portsLeft test))) f (portsLeft test))
-  unfolding outcomeBy
-  offer-carries =
-      onOption (first (roomRules outnumbered (portsLeft test)))
-      (λ e. rw e (left-joins e))
-      (λ r e. rw e tt)
-
-pub outcome-carries : (links : List ℕ) (x : Fate) → ((f : Frame) (test : ℕ → Test) → x ≡ offer f test → Fitted f)
-    → Carries links (outcomeOf (λ (f : Frame). ltb (freeCount links) (size f)) x)
-unfolding outcomeOf
-outcome-carries links (drop r) h = tt
-outcome-carries links (offer f test) h = offer-carries links f test (h f test refl)
+  pub outcome-carries : Carries links (outcomeOf facts)
+  unfolding outcomeOf outcomeBy
+  outcome-carries = onOption (reasonFor facts) (λ e. rw e (queued-joins e)) (λ r e. rw e tt)
 
 -- ---- what the outcome makes of the memories
 

@@ -5,11 +5,14 @@ use mathlib.Core.Bool.{Bool, true, false}
 use mathlib.Core.List.{List, _∷_}
 use native.Mathlib.Omega.{arith}
 use Rattle.rules.specs.Choice.{sift, among, Distinct, Each, nobody, also}
-use Rattle.rules.specs.PortTests.{Test, passes, notMember, arrival, elsewhere, state, queueOff, isPassed, allPorts, portsLeft}
-use Rattle.rules.specs.Arrival.{Frame, Fate, drop, offer, Verdict}
+use Rattle.rules.specs.PortTests.{Test, passes, notMember, arrival, elsewhere, state, queueOff, isPassed, portsLeft}
+use Rattle.rules.specs.Numbers.{allPorts}
+use Rattle.rules.specs.Counters.{offered, reason, accepted, notLearned, stateOut, queueOut}
+use Rattle.rules.specs.Facts.{Facts}
+use Rattle.rules.specs.Outcomes.{Frame, Outcome, drops, queues, outcomeOf, countsTests}
 use Rattle.rules.proofs.Choice.{on, each-append, distinct-sift}
-use Rattle.machine.specs.Events.{Event, offered, dropped, accepted, notLearned, queued, stateOut, queueOut, portOf}
-use Rattle.machine.specs.FrameIn.{Outcome, drops, queues, testEvent, testEvents, fateEvents, lessonEvents, queuedAt, outcomeEvents, frameInEvents}
+use Rattle.machine.specs.Events.{Event, counts, joins}
+use Rattle.machine.specs.FrameIn.{testEvent, testEvents, candidateEvents, lessonEvents, joinEvents, outcomeEvents, frameInEvents}
 use Rattle.standing.proofs.Masks.{sift-sift, sift-ext, among-sift-is}
 use Rattle.histories.proofs.Counting.{AtPort}
 
@@ -51,37 +54,36 @@ module _ (test : ℕ → Test) where
 
 -- ---- events
 
-first-at : (e : Event) {es : List Event} → portOf e ≤ 4 → Each AtPort es → Each AtPort (e ∷ es)
+first-at : (e : Event) {es : List Event} → e .port ≤ 4 → Each AtPort es → Each AtPort (e ∷ es)
 first-at e h t = also {a = e} (omega (arith, h)) t
 
 test-at : (r : ℕ) → r ≤ 4 → (t : Test) → Each AtPort (testEvent r t)
-unfolding testEvent portOf
+unfolding testEvent
 test-at r h passes = nobody
 test-at r h notMember = nobody
 test-at r h arrival = nobody
 test-at r h elsewhere = nobody
-test-at r h state = first-at (stateOut r) h nobody
-test-at r h queueOff = first-at (queueOut r) h nobody
+test-at r h state = first-at (counts stateOut r) h nobody
+test-at r h queueOff = first-at (counts queueOut r) h nobody
 
 tests-at : (test : ℕ → Test) {rs : List ℕ} → Each Inside rs → Each AtPort (testEvents test rs)
 unfolding testEvents
 tests-at test nobody = nobody
 tests-at test (also {a = r} h t) = each-append (test-at r h (test r)) (tests-at test t)
 
-fate-at : (x : Fate) → Each AtPort (fateEvents x)
-unfolding fateEvents
-fate-at (drop r) = nobody
-fate-at (offer f test) = tests-at test all-inside
+candidates-at : (f : Facts) → Each AtPort (candidateEvents f)
+unfolding candidateEvents
+candidates-at f = on (countsTests f) (λ e. rw e (tests-at (f .test) all-inside)) (λ e. rw e nobody)
 
 lesson-at : (p : ℕ) → p ≤ 4 → (unlearned : Bool) → Each AtPort (lessonEvents p unlearned)
-unfolding lessonEvents portOf
-lesson-at p h true = first-at (notLearned p) h nobody
+unfolding lessonEvents
+lesson-at p h true = first-at (counts notLearned p) h nobody
 lesson-at p h false = nobody
 
-queued-at : (f : Frame) {rs : List ℕ} → Each Inside rs → Each AtPort (queuedAt f rs)
-unfolding queuedAt portOf
-queued-at f nobody = nobody
-queued-at f (also {a = r} h t) = first-at (queued r f) h (queued-at f t)
+joins-at : (f : Frame) {rs : List ℕ} → Each Inside rs → Each AtPort (joinEvents f rs)
+unfolding joinEvents
+joins-at f nobody = nobody
+joins-at f (also {a = r} h t) = first-at (joins r f) h (joins-at f t)
 
 -- the ports of an outcome
 abbrev pub PortsInside : Outcome → Type 0
@@ -89,11 +91,12 @@ PortsInside (drops r) = Unit {0}
 PortsInside (queues f ports) = Each Inside ports
 
 outcome-at : (p : ℕ) → p ≤ 4 → (o : Outcome) → PortsInside o → Each AtPort (outcomeEvents p o)
-unfolding outcomeEvents portOf
-outcome-at p h (drops r) i = first-at (dropped p r) h nobody
-outcome-at p h (queues f ports) i = first-at (accepted p) h (queued-at f i)
+unfolding outcomeEvents
+outcome-at p h (drops r) i = first-at (counts (reason r) p) h nobody
+outcome-at p h (queues f ports) i = first-at (counts accepted p) h (joins-at f i)
 
-pub events-at : (p : ℕ) → p ≤ 4 → (v : Verdict) (o : Outcome) → PortsInside o → Each AtPort (frameInEvents p v o)
-unfolding frameInEvents portOf
-events-at p h v o i =
-    first-at (offered p) h (each-append (each-append (lesson-at p h (v .notLearned)) (fate-at (v .fate))) (outcome-at p h o i))
+pub events-at : (f : Facts) → f .port ≤ 4 → (unlearned : Bool) → PortsInside (outcomeOf f) → Each AtPort (frameInEvents f unlearned)
+unfolding frameInEvents
+events-at f h unlearned i =
+    first-at (counts offered (f .port)) h
+    (each-append (each-append (lesson-at (f .port) h unlearned) (candidates-at f)) (outcome-at (f .port) h (outcomeOf f) i))

@@ -1,5 +1,5 @@
 -- Memory that stands for a state meets no refusal 10 in a frame-in, and has as many free cells as the machine. Assumes nothing.
-use Prim.Native.Nat.{ℕ, _-_, _/_, _%_, _≤_, _<_}
+use Prim.Native.Nat.{ℕ, _/_, _%_, _≤_, _<_}
 use mathlib.Core.Path.{_≡_, sym, ap, _∙_}
 use mathlib.Core.Bool.{true}
 use mathlib.Core.List.{List}
@@ -7,8 +7,7 @@ use native.Mathlib.Omega.{arith}
 use lib.Dec.{leb}
 use borrow.Author.Tests.{leb-true, leb-false, lt-ltb}
 use Rattle.rules.proofs.Choice.{on}
-use Rattle.machine.specs.Waiting.{used}
-use Rattle.machine.specs.State.{State}
+use Rattle.machine.specs.State.{State, freeCells}
 use Rattle.layout.specs.Places.{ringOfQueue}
 use Rattle.lent.specs.Lengths.{cellCount}
 use Rattle.cells.specs.Free.{freeCount, roomFor}
@@ -50,7 +49,8 @@ module _ (m : Memories) (s : State) (S : Stands m s) where
   L = S .traffic .links-stand
 
   -- "all cells less those of the waiting frames"
-  pub free-is : freeCount (m .links) ≡ s .cellCount - used (s .core .waiting)
+  pub free-is : freeCount (m .links) ≡ freeCells s
+  unfolding freeCells
   free-is = omega (arith, free-room (s .cellCount) (m .links) (s .core .waiting) L)
 
   -- while a cell is free no ring is full

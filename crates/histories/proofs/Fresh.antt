@@ -10,7 +10,7 @@ use borrow.Author.Tests.{leb-true, eqb-true, eq-eqb, lt-ltb, le-ltb}
 use Rattle.rules.specs.Choice.{among, Distinct}
 use Rattle.rules.specs.Lines.{first}
 use Rattle.rules.specs.Cells.{fewestCells, mostCells}
-use Rattle.rules.specs.Addresses.{placeCount}
+use Rattle.rules.specs.Numbers.{placeCount}
 use Rattle.rules.proofs.Choice.{and-left, and-right}
 use Rattle.machine.specs.History.{freshSettings, fresh}
 use Rattle.machine.specs.Demands.{vids}

@@ -7,7 +7,7 @@ use native.Mathlib.Omega.{arith}
 use lib.Dec.{eqb}
 use borrow.Author.Tests.{lt-ltb, eq-eqb}
 use Rattle.rules.specs.Choice.{sift, among, Each, nobody, also}
-use Rattle.rules.specs.PortTests.{allPorts}
+use Rattle.rules.specs.Numbers.{allPorts}
 use Rattle.rules.specs.Arguments.{bit}
 use Rattle.rules.proofs.Choice.{on, and-left, each-map, each-zip}
 use Rattle.machine.specs.Waiting.{Waiting, size, waitsAt}

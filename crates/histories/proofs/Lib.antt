@@ -31,6 +31,7 @@ pub mod Draining
 pub mod Emptied
 pub mod Drain
 pub mod Refusals
+pub mod Refused
 pub mod Demands
 pub mod Theorems
 pub mod Asking

@@ -7,7 +7,7 @@ use native.Mathlib.Omega.{arith}
 use lib.Dec.{eqb}
 use lib.ListN.{length, length-map}
 use Rattle.rules.specs.Choice.{among, Each, nobody, also}
-use Rattle.rules.specs.Arrival.{Frame}
+use Rattle.rules.specs.Outcomes.{Frame}
 use Rattle.rules.proofs.Choice.{on, onList, each-map}
 use Rattle.machine.specs.Waiting.{Waiting, portAt, waitsAt, queueAt}
 use Rattle.machine.specs.FrameIn.{mask}

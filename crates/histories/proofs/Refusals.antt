@@ -9,13 +9,13 @@ use lib.Dec.{leb}
 use Rattle.rules.specs.Choice.{Each, nobody, also}
 use Rattle.rules.specs.Lines.{Line, first}
 use Rattle.rules.specs.Refusals.{Refusal, Lines, refusalNumber, frameInLines, takeLines, ageLines, counterLines, portLines, vlanLines, clearVlanLines, staticLines, removeLines, mapLines, queueSwitchLines, drainLines, bpduLines}
-use Rattle.rules.specs.Arrival.{Frame, decide}
+use Rattle.rules.specs.Outcomes.{Frame, Outcome, drops, queues, outcomeOf}
 use Rattle.rules.proofs.Choice.{on, onOption}
 use Rattle.machine.specs.State.{State, Call, frameIn, take, age, counter, port, vlan, clearVlan, static, remove, map, queueSwitch, drain, bpdu}
-use Rattle.machine.specs.FrameIn.{Outcome, drops, queues, outcomeOf, noRoomFor, outcomeAnswer, entered, frameInStep}
+use Rattle.machine.specs.FrameIn.{factsAt, outcomeAnswer, enters, frameInStep}
 use Rattle.machine.specs.TakeOut.{served, taken, takeStep, drainStep}
-use Rattle.machine.specs.SettingCalls.{leaves, settle}
-use Rattle.machine.specs.Machine.{linesOf, ageStep, act, refusing, unlessRefused, perform}
+use Rattle.machine.specs.SettingCalls.{silently, settle}
+use Rattle.machine.specs.Machine.{linesOf, ageStep, carryOut, refusing, unlessRefused, perform}
 use Rattle.histories.specs.Follows.{numbersOf}
 
 -- a refusal that is not of lent memory
@@ -35,17 +35,17 @@ first-own (l ∷ ls) (also h t) r e =
 
 own-lines : (s : State) (c : Call) → Each OwnLine (linesOf s c)
 unfolding linesOf frameInLines takeLines ageLines counterLines portLines vlanLines clearVlanLines staticLines removeLines mapLines queueSwitchLines drainLines bpduLines refusalNumber
-own-lines s (frameIn p k) = also refl nobody
-own-lines s (take p room) = also refl (also refl nobody)
+own-lines s (frameIn c) = also refl nobody
+own-lines s (take c) = also refl (also refl nobody)
 own-lines s age = nobody
-own-lines s (counter p k) = also refl (also refl nobody)
-own-lines s (port p n) = also refl (also refl nobody)
+own-lines s (counter c) = also refl (also refl nobody)
+own-lines s (port c) = also refl (also refl nobody)
 own-lines s (vlan n) = also refl (also refl nobody)
 own-lines s (clearVlan vid) = also refl (also refl nobody)
-own-lines s (static gid p address) = also refl (also refl (also refl (also refl nobody)))
-own-lines s (remove gid address) = also refl (also refl nobody)
-own-lines s (map pcp q) = also refl nobody
-own-lines s (queueSwitch p q b) = also refl (also refl nobody)
+own-lines s (static c) = also refl (also refl (also refl (also refl nobody)))
+own-lines s (remove c) = also refl (also refl nobody)
+own-lines s (map c) = also refl nobody
+own-lines s (queueSwitch c) = also refl (also refl nobody)
 own-lines s (drain p) = also refl nobody
 own-lines s (bpdu b) = also refl nobody
 
@@ -61,21 +61,21 @@ unfolding numbersOf taken
 taken-zero s p none = refl
 taken-zero s p (some f) = refl
 
-act-zero : (s : State) (c : Call) → numbersOf (act s c .answer) .refusal ≡ 0
-unfolding numbersOf act ageStep settle leaves frameInStep entered takeStep drainStep
-act-zero s (frameIn p k) = outcome-zero (outcomeOf (noRoomFor s) (decide (s .core .settings) (s .core .table) p k .fate))
-act-zero s (take p room) = taken-zero s p (served s p)
-act-zero s age = refl
-act-zero s (counter p k) = refl
-act-zero s (port p n) = refl
-act-zero s (vlan n) = refl
-act-zero s (clearVlan vid) = refl
-act-zero s (static gid p address) = refl
-act-zero s (remove gid address) = refl
-act-zero s (map pcp q) = refl
-act-zero s (queueSwitch p q b) = refl
-act-zero s (drain p) = refl
-act-zero s (bpdu b) = refl
+carried-zero : (s : State) (c : Call) → numbersOf (carryOut s c .answer) .refusal ≡ 0
+unfolding numbersOf carryOut ageStep settle silently frameInStep enters takeStep drainStep
+carried-zero s (frameIn c) = outcome-zero (outcomeOf (factsAt s (c .port) (c .packet)))
+carried-zero s (take c) = taken-zero s (c .port) (served s (c .port))
+carried-zero s age = refl
+carried-zero s (counter c) = refl
+carried-zero s (port c) = refl
+carried-zero s (vlan n) = refl
+carried-zero s (clearVlan vid) = refl
+carried-zero s (static c) = refl
+carried-zero s (remove c) = refl
+carried-zero s (map c) = refl
+carried-zero s (queueSwitch c) = refl
+carried-zero s (drain p) = refl
+carried-zero s (bpdu b) = refl
 
 -- ---- so 0, or 2 to 9
 
@@ -87,7 +87,7 @@ module _ (s : State) (c : Call) (r : ℕ) (foreign : (leb 2 r && leb r 9) ≡ fa
   unfolding perform unlessRefused refusing numbersOf
   never =
       onOption (first (linesOf s c))
-      (λ e h. let zero-is : 0 ≡ r = sym (act-zero s c) ∙ (rw e at h) in omega arith)
+      (λ e h. let zero-is : 0 ≡ r = sym (carried-zero s c) ∙ (rw e at h) in omega arith)
       (λ x e h. apart x (first-own (linesOf s c) (own-lines s c) x e) (rw e at h))
     where
       apart : (x : Refusal) → Own (refusalNumber x) → numbersOf (refusing s x .answer) .refusal ≡ r → ⊥

@@ -5,7 +5,8 @@ use mathlib.Core.Bool.{true, _&&_}
 use mathlib.Core.List.{List, _∷_}
 use lib.Dec.{leb}
 use borrow.Author.Tests.{eq-eqb}
-use Rattle.rules.specs.Arguments.{mostPcp, isVid, flag, PortNumbers, operationInRange, portInRange}
+use Rattle.rules.specs.Numbers.{mostPcp}
+use Rattle.rules.specs.Arguments.{isVid, flag, PortNumbers, operationInRange, portInRange}
 use Rattle.rules.proofs.Choice.{on, and-right, each-first}
 use Rattle.machine.specs.Waiting.{Waiting, waitsAt}
 use Rattle.layout.specs.Places.{ringOfQueue}

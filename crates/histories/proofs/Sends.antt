@@ -7,11 +7,11 @@ use native.Mathlib.Omega.{arith}
 use lib.Dec.{eqb}
 use lib.ListN.{length, drop}
 use Rattle.rules.specs.Choice.{if_then_else_}
-use Rattle.rules.specs.Arrival.{Frame}
+use Rattle.rules.specs.Outcomes.{Frame}
 use Rattle.rules.specs.Counters.{counterNumber}
 use Rattle.rules.specs.Counters as Counters
 use Rattle.machine.specs.Waiting.{Waiting, queueAt, send, drain}
-use Rattle.machine.specs.Events.{drained, portOf, counterOf, Counts, bumps, bump, tally}
+use Rattle.machine.specs.Events.{drains, Counts, bumps, bump, tally}
 use Rattle.machine.proofs.Waits.{send-same, send-same-port}
 use Rattle.standing.proofs.Reading.{drain-after-send}
 
@@ -55,8 +55,8 @@ unfoldable pub drainsCounted : ℕ → ℕ → Counts → Counts
 drainsCounted zero p c = c
 drainsCounted (suc k) p c = drainsCounted k p (drainCounted p c)
 
-pub bump-drained : (p : ℕ) (f : Frame) (c : Counts) → bump (drained p f) c ≡ drainCounted p c
-unfolding bump bumps portOf counterOf drainCounted
+pub bump-drained : (p : ℕ) (f : Frame) (c : Counts) → bump (drains p f) c ≡ drainCounted p c
+unfolding bump bumps drainCounted
 bump-drained p f c = refl
 
 pub counted-then : (j k p : ℕ) (c : Counts) → drainsCounted j p (drainsCounted k p c) ≡ drainsCounted (k + j) p c
@@ -65,7 +65,7 @@ counted-then j zero p c = ap (λ (m : ℕ). drainsCounted m p c) (let z : j ≡ 
 counted-then j (suc k) p c =
     counted-then j k p (drainCounted p c) ∙ ap (λ (m : ℕ). drainsCounted m p c) (let z : suc (k + j) ≡ suc k + j = omega arith in z)
 
-pub tally-drained : (p : ℕ) (fs : List Frame) (c : Counts) → tally (map (λ f. drained p f) fs) c ≡ drainsCounted (length fs) p c
+pub tally-drained : (p : ℕ) (fs : List Frame) (c : Counts) → tally (map (λ f. drains p f) fs) c ≡ drainsCounted (length fs) p c
 unfolding tally drainsCounted
 tally-drained p [] c = refl
-tally-drained p (f ∷ fs) c = tally-drained p fs (bump (drained p f) c) ∙ ap (drainsCounted (length fs) p) (bump-drained p f c)
+tally-drained p (f ∷ fs) c = tally-drained p fs (bump (drains p f) c) ∙ ap (drainsCounted (length fs) p) (bump-drained p f c)

@@ -5,8 +5,9 @@ use mathlib.Core.List.{List, [], _∷_, map}
 use mathlib.Core.Option.{none, some}
 use native.Mathlib.Omega.{arith}
 use Rattle.rules.proofs.Choice.{onList}
-use Rattle.machine.specs.Waiting.{Waiting, waitsAt, queueAt, firstOf, oldest}
+use Rattle.machine.specs.Waiting.{Waiting, waitsAt, queueAt, oldest}
 use Rattle.machine.specs.State.{State}
+use Rattle.machine.specs.TakeOut.{isEmpty, firstWaiting, servedQueue, oldestOf}
 use Rattle.machine.specs.TakeOut as Machine
 use Rattle.machine.proofs.Waits.{own-queue}
 use Rattle.layout.specs.Places.{ringOfQueue}
@@ -34,11 +35,11 @@ module _ (n : ℕ) (links : List ℕ) (ws : List Waiting) (T : LinkTraffic n lin
       sym (ring-is-queue n (linksIn n links (T .held)) ws (T .stands) p q hp hq) ∙ ap (map (λ (i : ℕ). T .held i .frame)) e
 
   served-below : {C : Type 0} (k : ℕ) → k ≤ 4
-      → (servedBelow k n p links ≡ Nobody → oldest (below k) p ws ≡ none → C)
+      → (servedBelow k n p links ≡ Nobody → firstWaiting (below k) p ws ≡ none → C)
       → ((q i : ℕ) (tail : List ℕ) → q < 4 → ringOf n links (ringOfQueue p q) ≡ i ∷ tail
-      → servedBelow k n p links ≡ Frame q i → oldest (below k) p ws ≡ some (T .held i .frame) → C)
+      → servedBelow k n p links ≡ Frame q i → firstWaiting (below k) p ws ≡ some q → C)
       → C
-  unfolding servedBelow servedOr oldest firstOf
+  unfolding servedBelow servedOr firstWaiting isEmpty
   served-below zero h nay yea = nay refl refl
   served-below (suc k) h nay yea =
       onList (ringOf n links (ringOfQueue p k))
@@ -66,11 +67,12 @@ module _ (cells links : List ℕ) (s : State) (T : Traffic (s .cellCount) cells 
       → ((q i : ℕ) (tail : List ℕ) → q < 4 → ringOf n links (ringOfQueue p q) ≡ i ∷ tail
       → served n p links ≡ Frame q i → Machine.served s p ≡ some (frameAt cells links i q) → C)
       → C
-  unfolding served Machine.served
+  unfolding served Machine.served servedQueue oldestOf oldest
   on-served nay yea =
-      served-below n links (s .core .waiting) L p hp 4 (omega arith) nay
+      served-below n links (s .core .waiting) L p hp 4 (omega arith)
+      (λ a b. nay a (rw b))
       (λ q i tail hq head a b.
       let here = sift-head (λ j. waitsAt p q (L .held j)) i tail (T .frames) (heads n links (s .core .waiting) L p q i hp hq tail head) in
       let own : q ≡ L .held i .frame .queue = own-queue p q (L .held i) (here .1) in
       let frame : frameAt cells links i q ≡ L .held i .frame = ap (frameAt cells links i) own ∙ here .0 .frame in
-      yea q i tail hq head a (b ∙ ap some (sym frame)))
+      yea q i tail hq head a (rw (b, queue-is n links (s .core .waiting) L p hp q hq (i ∷ tail) head) (ap some (sym frame))))

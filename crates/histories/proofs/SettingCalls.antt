@@ -10,16 +10,16 @@ use lib.ListN.{set}
 use lib.Seq.{sets}
 use borrow.Author.Tests.{leb-true, ltb-false, not-false}
 use Rattle.rules.specs.Lines.{first}
-use Rattle.rules.specs.PortTests.{managementPort}
-use Rattle.rules.specs.Counters.{lastCounter}
-use Rattle.rules.specs.Arguments.{mostPcp, mostQueue, PortNumbers, portInRange, portOf, flag}
+use Rattle.rules.specs.Numbers.{managementPort, lastCounter, mostPcp, mostQueue}
+use Rattle.rules.specs.Arguments.{portInRange, portOf, flag}
 use Rattle.rules.specs.Refusals.{counterLines, portLines, mapLines, queueSwitchLines, bpduLines}
 use Rattle.rules.proofs.Choice.{and-left, and-right, each-first, each-rest}
 use Rattle.rules.proofs.Lines.{holds-none}
 use Rattle.machine.specs.Events.{tally}
+use Rattle.rules.specs.Requests.{CounterRequest, PortRequest, MapRequest, SwitchRequest}
 use Rattle.machine.specs.State.{counter, port, map, queueSwitch, bpdu}
 use Rattle.machine.specs.SettingCalls.{withPort, withQueue, withSwitch, withBpdu}
-use Rattle.machine.specs.Machine.{linesOf, act, next}
+use Rattle.machine.specs.Machine.{linesOf, carryOut, next}
 use Rattle.layout.specs.Places.{bpduWord, mapWord, queueSwitchWord, portWord}
 use Rattle.lent.specs.Answers.{doneWith}
 use Rattle.settings.specs.Records.{portWords}
@@ -35,38 +35,42 @@ use Rattle.histories.proofs.SettingRanges.{port-in-range, map-in-range,
 
 -- ---- counter
 
-counter-allowed : (p k : ℕ) → first (counterLines p k) ≡ none → (p < 5) × (k ≤ lastCounter)
+counter-allowed : (c : CounterRequest) → first (counterLines c) ≡ none → (c .port < 5) × (c .number ≤ lastCounter)
 unfolding counterLines
-counter-allowed p k e =
+counter-allowed c e =
     let fails = holds-none _ e in
-    (omega (arith, ltb-false managementPort p (each-first fails)), leb-true k lastCounter (not-false (leb k lastCounter) (each-first (each-rest fails))))
+    (omega (arith, ltb-false managementPort (c .port) (each-first fails)), leb-true (c .number) lastCounter (not-false (leb (c .number) lastCounter) (each-first (each-rest fails))))
 
-pub counter-follows : (p k : ℕ) → CallFollows (counter p k)
-unfolding run counterCall counterRefusals linesOf act numbersOf handedBack next tally
-counter-follows p k m s S buffer handed =
-    follows-by m s S (counter p k) buffer (m .links) (doneWith (counterAt (m .links) p k) 0, m .links) (onLinks m buffer) (λ r. refl)
-    (first (counterRefusals (m .links) p k)) (lines-alone (counterLines p k) (S .links-fit))
+pub counter-follows : (c : CounterRequest) → CallFollows (counter c)
+unfolding run counterCall counterRefusals linesOf carryOut numbersOf handedBack next tally
+counter-follows c m s S buffer handed =
+    let p = c .port in
+    let k = c .number in
+    follows-by m s S (counter c) buffer (m .links) (doneWith (counterAt (m .links) p k) 0, m .links) (onLinks m buffer) (λ r. refl)
+    (first (counterRefusals (m .links) p k)) (lines-alone (counterLines c) (S .links-fit))
     (λ e.
-    let allowed = counter-allowed p k e in
+    let allowed = counter-allowed c e in
     record { same-answer = ap (λ (x : ℕ). doneWith x 0) (S .counters p k (allowed .0) (allowed .1)); same-bytes = refl; stands-kept = S })
 
 -- ---- port
 
-port-allowed : (p : ℕ) (n : PortNumbers) → first (portLines p n) ≡ none → (p < 5) × (portInRange n ≡ true)
+port-allowed : (c : PortRequest) → first (portLines c) ≡ none → (c .port < 5) × (portInRange (c .new) ≡ true)
 unfolding portLines
-port-allowed p n e =
+port-allowed c e =
     let fails = holds-none _ e in
-    (omega (arith, ltb-false managementPort p (each-first fails)), not-false (portInRange n) (each-first (each-rest fails)))
+    (omega (arith, ltb-false managementPort (c .port) (each-first fails)), not-false (portInRange (c .new)) (each-first (each-rest fails)))
 
-pub port-follows : (p : ℕ) (n : PortNumbers) → CallFollows (port p n)
-unfolding run portCall portRefusals linesOf act withPort
-port-follows p n m s S buffer handed =
+pub port-follows : (c : PortRequest) → CallFollows (port c)
+unfolding run portCall portRefusals linesOf carryOut withPort
+port-follows c m s S buffer handed =
+    let p = c .port in
+    let n = c .new in
     let links = sets (m .links) (portWord p) (portWords n) in
     let long = links-long m s S in
-    setting-follows m s S (port p n) buffer (first (portRefusals (m .links) p n)) (lines-alone (portLines p n) (S .links-fit)) links
+    setting-follows m s S (port c) buffer (first (portRefusals (m .links) p n)) (lines-alone (portLines c) (S .links-fit)) links
     (withPort p (portOf n) (s .core .settings)) refl
     (λ e.
-    let allowed = port-allowed p n e in (
+    let allowed = port-allowed c e in (
       set-behind (m .links) (portWord p) (portWords n) (omega arith) (omega (arith, port-words-length n, allowed .0)),
       record {
         says = port-written (m .links) p n long (allowed .0) ∙ ap (withPort p (portOf n)) (S .settings .says);
@@ -77,21 +81,25 @@ port-follows p n m s S buffer handed =
 
 -- ---- map: the queue of a PCP
 
-map-allowed : (pcp q : ℕ) → first (mapLines pcp q) ≡ none → (pcp < 8) × (q ≤ mostQueue)
+map-allowed : (c : MapRequest) → first (mapLines c) ≡ none → (c .pcp < 8) × (c .queue ≤ mostQueue)
 unfolding mapLines
-map-allowed pcp q e =
+map-allowed c e =
+    let pcp = c .pcp in
+    let q = c .queue in
     let both = not-false (leb pcp mostPcp && leb q mostQueue) (each-first (holds-none _ e)) in
     (omega (arith, leb-true pcp mostPcp (and-left _ (leb q mostQueue) both)), leb-true q mostQueue (and-right (leb pcp mostPcp) _ both))
 
-pub map-follows : (pcp q : ℕ) → CallFollows (map pcp q)
-unfolding run mapCall mapRefusals linesOf act withQueue
-map-follows pcp q m s S buffer handed =
+pub map-follows : (c : MapRequest) → CallFollows (map c)
+unfolding run mapCall mapRefusals linesOf carryOut withQueue
+map-follows c m s S buffer handed =
+    let pcp = c .pcp in
+    let q = c .queue in
     let links = set (m .links) (mapWord pcp) q in
     let long = links-long m s S in
-    setting-follows m s S (map pcp q) buffer (first (mapRefusals (m .links) pcp q)) (lines-alone (mapLines pcp q) (S .links-fit)) links
+    setting-follows m s S (map c) buffer (first (mapRefusals (m .links) pcp q)) (lines-alone (mapLines c) (S .links-fit)) links
     (withQueue pcp q (s .core .settings)) refl
     (λ e.
-    let allowed = map-allowed pcp q e in (
+    let allowed = map-allowed c e in (
       set-before (m .links) (mapWord pcp) (q ∷ []) (omega arith) (omega (arith, allowed .0)),
       record {
         says = queue-written (m .links) pcp q long (allowed .0) ∙ ap (withQueue pcp q) (S .settings .says);
@@ -102,9 +110,12 @@ map-follows pcp q m s S buffer handed =
 
 -- ---- queue switch
 
-queue-switch-allowed : (p q on : ℕ) → first (queueSwitchLines p q on) ≡ none → (p < 5) × (q < 4) × (on ≤ 1)
+queue-switch-allowed : (c : SwitchRequest) → first (queueSwitchLines c) ≡ none → (c .port < 5) × (c .queue < 4) × (c .on ≤ 1)
 unfolding queueSwitchLines
-queue-switch-allowed p q on e =
+queue-switch-allowed c e =
+    let p = c .port in
+    let q = c .queue in
+    let on = c .on in
     let fails = holds-none _ e in
     let both = not-false (leb q mostQueue && leb on 1) (each-first (each-rest fails)) in (
       omega (arith, ltb-false managementPort p (each-first fails)),
@@ -112,15 +123,18 @@ queue-switch-allowed p q on e =
       leb-true on 1 (and-right (leb q mostQueue) _ both),
     )
 
-pub queue-switch-follows : (p q on : ℕ) → CallFollows (queueSwitch p q on)
-unfolding run queueSwitchCall queueSwitchRefusals linesOf act withSwitch
-queue-switch-follows p q on m s S buffer handed =
+pub queue-switch-follows : (c : SwitchRequest) → CallFollows (queueSwitch c)
+unfolding run queueSwitchCall queueSwitchRefusals linesOf carryOut withSwitch
+queue-switch-follows c m s S buffer handed =
+    let p = c .port in
+    let q = c .queue in
+    let on = c .on in
     let links = set (m .links) (queueSwitchWord p q) on in
     let long = links-long m s S in
-    setting-follows m s S (queueSwitch p q on) buffer (first (queueSwitchRefusals (m .links) p q on)) (lines-alone (queueSwitchLines p q on) (S .links-fit)) links
+    setting-follows m s S (queueSwitch c) buffer (first (queueSwitchRefusals (m .links) p q on)) (lines-alone (queueSwitchLines c) (S .links-fit)) links
     (withSwitch p q (flag on) (s .core .settings)) refl
     (λ e.
-    let allowed = queue-switch-allowed p q on e in (
+    let allowed = queue-switch-allowed c e in (
       set-before (m .links) (queueSwitchWord p q) (on ∷ []) (omega arith) (omega (arith, allowed .0, allowed .1)),
       record {
         says = switch-written (m .links) p q on long (allowed .0) (allowed .1) ∙ ap (withSwitch p q (flag on)) (S .settings .says);
@@ -136,7 +150,7 @@ unfolding bpduLines
 bpdu-allowed on e = leb-true on 1 (not-false (leb on 1) (each-first (holds-none _ e)))
 
 pub bpdu-follows : (on : ℕ) → CallFollows (bpdu on)
-unfolding run bpduCall bpduRefusals linesOf act withBpdu
+unfolding run bpduCall bpduRefusals linesOf carryOut withBpdu
 bpdu-follows on m s S buffer handed =
     let links = set (m .links) bpduWord on in
     let long = links-long m s S in

@@ -12,8 +12,8 @@ use Rattle.rules.specs.Settings.{Settings}
 use Rattle.rules.specs.Refusals.{Refusal}
 use Rattle.machine.specs.Events.{tally}
 use Rattle.machine.specs.State.{State, Call}
-use Rattle.machine.specs.SettingCalls.{leaves, settle}
-use Rattle.machine.specs.Machine.{linesOf, act, perform, next}
+use Rattle.machine.specs.SettingCalls.{silently, settle}
+use Rattle.machine.specs.Machine.{linesOf, carryOut, perform, next}
 use Rattle.layout.specs.Same.{CellsSame, RingSame}
 use Rattle.layout.proofs.Stores.{cells-then, ring-then}
 use Rattle.lent.specs.Lengths.{cellCount}
@@ -75,7 +75,7 @@ set-then a b =
 settled : (m : Memories) (s : State) → Stands m s → (buffer links : List ℕ) (new : Settings)
     → OnlySet (m .links) links → SettingsStand links new
     → Follows (onLinks m buffer (doneWith 0 0, links)) buffer s (settle s new)
-unfolding settle leaves numbersOf handedBack next tally
+unfolding settle silently numbersOf handedBack next tally
 settled m s S buffer links new only stands =
     record {
       same-answer = refl;
@@ -93,7 +93,7 @@ settled m s S buffer links new only stands =
 
 -- such a call by its refusal lines
 pub setting-follows : (m : Memories) (s : State) → Stands m s → (c : Call) (buffer : List ℕ) (o : Option Refusal) → o ≡ first (linesOf s c)
-    → (links : List ℕ) (new : Settings) → act s c ≡ settle s new
+    → (links : List ℕ) (new : Settings) → carryOut s c ≡ settle s new
     → (first (linesOf s c) ≡ none → OnlySet (m .links) links × SettingsStand links new)
     → Follows (onLinks m buffer (orRefused o (m .links) (doneWith 0 0, links))) buffer s (perform s c)
 setting-follows m s S c buffer o same links new acts doing =

@@ -10,13 +10,15 @@ use lib.ListN.{length}
 use borrow.Author.Tests.{ltb-false}
 use Rattle.rules.specs.Lines.{first}
 use Rattle.rules.specs.Refusals.{takeLines}
-use Rattle.rules.specs.PortTests.{managementPort}
+use Rattle.rules.specs.Numbers.{managementPort}
 use Rattle.rules.proofs.Choice.{on, each-first}
 use Rattle.rules.proofs.Lines.{holds-none}
-use Rattle.machine.specs.Events.{sent, portOf, counterOf, tally}
+use Rattle.machine.specs.Events.{sends, tally}
+use Rattle.rules.specs.Requests.{TakeRequest}
 use Rattle.machine.specs.State.{State, take}
 use Rattle.machine.specs.TakeOut.{leavingBytes, taken, takeStep}
-use Rattle.machine.specs.Machine.{linesOf, act, next}
+use Rattle.machine.specs.TakeOut as Machine
+use Rattle.machine.specs.Machine.{linesOf, carryOut, next}
 use Rattle.layout.specs.Places.{ringOfQueue}
 use Rattle.lent.specs.Lengths.{cellCount, linksFit, cellsFit}
 use Rattle.queues.specs.Rings.{ringOf}
@@ -32,9 +34,9 @@ use Rattle.histories.proofs.Departing.{departing}
 use Rattle.histories.proofs.Serving.{on-served}
 use Rattle.histories.proofs.Sending.{can-send}
 
-take-port : (p room : ℕ) → first (takeLines p room) ≡ none → p < 5
+take-port : (c : TakeRequest) → first (takeLines c) ≡ none → c .port < 5
 unfolding takeLines
-take-port p room e = omega (arith, ltb-false managementPort p (each-first (holds-none _ e)))
+take-port c e = omega (arith, ltb-false managementPort (c .port) (each-first (holds-none _ e)))
 
 module _ (m : Memories) (s : State) (S : Stands m s) (p : ℕ) (buffer : List ℕ) where
   abbrev n : ℕ
@@ -49,13 +51,13 @@ module _ (m : Memories) (s : State) (S : Stands m s) (p : ℕ) (buffer : List �
       (λ a b. rw a)
       (λ q i tail hq head a b. rw (a, can-send n (m .cells) (m .links) (s .core .waiting) (S .traffic) p hp (S .settings .in-range .ports p hp) q i tail hq head))
 
-  same-lines : first (takeRefusals (m .cells) (m .links) p buffer (served n p (m .links))) ≡ first (takeLines p (length buffer))
+  same-lines : first (takeRefusals (m .cells) (m .links) p buffer (served n p (m .links))) ≡ first (takeLines (record { port = p; buffer = length buffer }))
   unfolding takeRefusals takeLines first
   same-lines =
       let fits : linksFit (m .links) && cellsFit (m .cells) (m .links) ≡ true = rw (S .links-fit, S .cells-fit) in
       on (ltb managementPort p)
       (λ e. rw (fits, e))
-      (λ e. rw (S .cell-count) (lines-between (takeLines p (length buffer)) fits (undamaged (omega (arith, ltb-false managementPort p e)))))
+      (λ e. rw (S .cell-count) (lines-between (takeLines (record { port = p; buffer = length buffer })) fits (undamaged (omega (arith, ltb-false managementPort p e)))))
 
   -- ---- what is done
 
@@ -65,30 +67,31 @@ module _ (m : Memories) (s : State) (S : Stands m s) (p : ℕ) (buffer : List �
 
   frame-sent : p < 5 → (q i : ℕ) (tail : List ℕ) → q < 4 → ringOf n (m .links) (ringOfQueue p q) ≡ i ∷ tail
       → Follows (onBuffer m (takenFrame (m .cells) n (m .links) p buffer q i)) buffer s (taken s p (some (frameAt (m .cells) (m .links) i q)))
-  unfolding takenFrame sentFrom taken numbersOf handedBack next tally frameOf portOf counterOf
+  unfolding takenFrame sentFrom taken numbersOf handedBack next tally frameOf
   frame-sent hp q i tail hq head =
       record {
         same-answer = rw (same-leaving q i);
         same-bytes = rw (same-leaving q i);
-        stands-kept = departing m s S p q i hp hq tail head (sent p (frameAt (m .cells) (m .links) i q)) refl;
+        stands-kept = departing m s S p q i hp hq tail head (sends p (frameAt (m .cells) (m .links) i q)) refl;
       }
 
-  take-done : p < 5 → Follows (onBuffer m (takenFrom (m .cells) n (m .links) p buffer (served n p (m .links)))) buffer s (takeStep s p)
-  unfolding takenFrom takeStep taken numbersOf handedBack next tally
+  take-done : p < 5 → Follows (onBuffer m (takenFrom (m .cells) n (m .links) p buffer (served n p (m .links)))) buffer s (taken s p (Machine.served s p))
+  unfolding takenFrom taken numbersOf handedBack next tally
   take-done hp =
       on-served (m .cells) (m .links) s (S .traffic) p hp
       (λ a b. rw (a, b) (record { same-answer = refl; same-bytes = refl; stands-kept = S }))
       (λ q i tail hq head a b. rw (a, b) (frame-sent hp q i tail hq head))
 
-pub take-follows : (p room : ℕ) → CallFollows (take p room)
-unfolding run takeCall takeBy Handed linesOf act
-take-follows p room m s S buffer handed =
+pub take-follows : (c : TakeRequest) → CallFollows (take c)
+unfolding run takeCall takeBy Handed linesOf carryOut takeStep
+take-follows c m s S buffer handed =
+    let p = c .port in
     let serving = served (cellCount (m .links)) p (m .links) in
-    follows-by m s S (take p room) buffer
+    follows-by m s S (take c) buffer
     (m .links, buffer)
     (takenFrom (m .cells) (cellCount (m .links)) (m .links) p buffer serving)
     (onBuffer m)
     (λ r. refl)
     (first (takeRefusals (m .cells) (m .links) p buffer serving))
     (rw (S .cell-count, handed) (same-lines m s S p buffer))
-    (λ e. rw (S .cell-count) (take-done m s S p buffer (take-port p room e)))
+    (λ e. rw (S .cell-count) (take-done m s S p buffer (take-port c e)))

@@ -1,19 +1,31 @@
 -- Memory stands for the machine, over every history. Assumes nothing.
-use Prim.Native.Nat.{ℕ}
-use mathlib.Core.Path.{_≡_, refl, sym, ap, ap₂, _∙_}
-use mathlib.Core.Bool.{true}
+use Prim.Native.Nat.{ℕ, _≤_}
+use mathlib.Core.Path.{_≡_, refl, sym, ap, ap₂, _∙_, subst}
+use mathlib.Core.Bool.{Bool, true, false, _&&_}
 use mathlib.Core.List.{List, [], _∷_}
+use mathlib.Core.Option.{Option, none, some}
 use native.Mathlib.Omega.{arith}
-use Rattle.rules.specs.Choice.{also}
+use lib.Dec.{eqb, leb}
+use lib.ListN.{length}
+use borrow.Author.Tests.{leb-true}
+use Rattle.rules.specs.Choice.{if_then_else_, also}
+use Rattle.rules.specs.Cells.{cellSize}
+use Rattle.rules.specs.Lines.{first}
+use Rattle.rules.specs.Refusals.{Refusal, memoryLength, freshLines}
+use Rattle.rules.proofs.Choice.{on, and-left, and-right}
 use Rattle.machine.specs.State.{State, Call, frameIn, take, age, counter, port, vlan, clearVlan, static, remove, map, queueSwitch, drain, bpdu}
 use Rattle.machine.specs.Machine.{perform, next}
-use Rattle.machine.specs.History.{fresh, after}
+use Rattle.machine.specs.History.{fresh, after, HostCall, start, startUnlessRefused, startAnswer, after₁, answer₁, life, currentAfter}
+use Rattle.machine.specs.LifeTheorems as Machine
+use Rattle.machine.proofs.Lives.{life-theorems}
 use Rattle.lent.specs.declared.Answer as Lent
-use Rattle.fresh_call.specs.Calls.{cellsLent, lengthsFit}
-use Rattle.histories.specs.Memories.{Memories}
+use Rattle.lent.specs.Answers.{doneWith}
+use Rattle.fresh_call.specs.Calls.{cellsLent, lengthsFit, freshRefusals, freshCall}
+use Rattle.histories.specs.Memories.{Memories, Done}
 use Rattle.histories.specs.Stands.{Stands}
-use Rattle.histories.specs.Follows.{Handed, CallFollows}
-use Rattle.histories.specs.Histories.{Made, calls, AllHanded, ran, memoriesAfter, seen, freshMemories, expected}
+use Rattle.histories.specs.Follows.{Handed, CallFollows, numbersOf, handedBack}
+use Rattle.histories.specs.RefusalTheorems.{unchanged}
+use Rattle.histories.specs.Histories.{Made, begin, call, misfit, MayBeMade, AllHanded, Seen, fits, begun, ran, memoriesAfter₁, memoriesAfter, seen, cellsOf, hostCall, hostCalls, bufferOf, shown, expected}
 use Rattle.histories.specs.Theorems.{FreshTheorems, CallTheorems, HistoryTheorems}
 use Rattle.histories.proofs.Fresh as Fresh
 use Rattle.histories.proofs.AddressCalls.{age-follows, static-follows, remove-follows}
@@ -23,26 +35,37 @@ use Rattle.histories.proofs.FrameIn.{frame-in-follows}
 use Rattle.histories.proofs.Take.{take-follows}
 use Rattle.histories.proofs.Drain.{drain-follows}
 use Rattle.histories.proofs.Refusals.{never}
+use Rattle.histories.proofs.Refused.{refused-exactly}
 use Rattle.histories.proofs.Demands.{memory-holds}
 
-pub fresh-theorems : (cells links addresses : List ℕ) (fit : lengthsFit cells links addresses ≡ true) → FreshTheorems cells links addresses fit
-fresh-theorems cells links addresses fit =
-    let both = Fresh.stands-fresh cells links addresses fit in record { fresh-answers = both .0; stands-fresh = both .1 }
+-- ---- the fresh call
+
+fresh-refused : (x : Memories) → fits x ≡ false → begun x ≡ unchanged memoryLength x []
+unfolding freshCall freshRefusals first
+fresh-refused x e = rw e
+
+pub fresh-theorems : (x : Memories) → FreshTheorems x
+fresh-theorems x =
+    record {
+      fresh-answers = λ fit. Fresh.stands-fresh (x .cells) (x .links) (x .addresses) fit .0;
+      stands-fresh = λ fit. Fresh.stands-fresh (x .cells) (x .links) (x .addresses) fit .1;
+      fresh-refused = fresh-refused x;
+    }
 
 -- ---- one call
 
 pub follows : (c : Call) → CallFollows c
-follows (frameIn p k) = frame-in-follows p k
-follows (take p room) = take-follows p room
+follows (frameIn c) = frame-in-follows c
+follows (take c) = take-follows c
 follows age = age-follows
-follows (counter p k) = counter-follows p k
-follows (port p n) = port-follows p n
+follows (counter c) = counter-follows c
+follows (port c) = port-follows c
 follows (vlan n) = vlan-follows n
 follows (clearVlan vid) = clear-vlan-follows vid
-follows (static gid p address) = static-follows gid p address
-follows (remove gid address) = remove-follows gid address
-follows (map pcp q) = map-follows pcp q
-follows (queueSwitch p q b) = queue-switch-follows p q b
+follows (static c) = static-follows c
+follows (remove c) = remove-follows c
+follows (map c) = map-follows c
+follows (queueSwitch c) = queue-switch-follows c
 follows (drain p) = drain-follows p
 follows (bpdu b) = bpdu-follows b
 
@@ -57,21 +80,82 @@ call-theorems m s S c buffer h =
       never-ten = λ e. never s c 10 refl (omega arith) (sym (ap (λ (a : Lent.Answer). a .refusal) (f .same-answer)) ∙ e);
     }
 
+-- ---- a call of the fourteen
+
+-- memories that fit are a number of cells that the machine's fresh call takes
+count-fits : (x : Memories) → fits x ≡ true → first (freshLines (cellsLent (x .cells))) ≡ none
+unfolding lengthsFit freshLines first
+count-fits x e =
+    let n = cellsLent (x .cells) in
+    let a = and-left _ (eqb (length (x .addresses)) 4112) e in
+    let b = and-left _ (eqb (length (x .links)) _) a in
+    let c = and-left (leb 64 n && leb n 2048) (eqb (length (x .cells)) _) b in
+    rw c
+
+-- what a call comes to on memory is what the machine makes of it
+record Follows₁ (m : Memories) (s : State) (c : Made) : Type 0 where
+  sees : _≡_ {A = Seen} (ran m c .answer, ran m c .buffer) (shown (bufferOf c) (answer₁ s (hostCall c)))
+  stands : Stands (memoriesAfter₁ m c) (after₁ s (hostCall c))
+
+pair : {a a′ : Lent.Answer} {b b′ : List ℕ} → a ≡ a′ → b ≡ b′ → _≡_ {A = Seen} (a, b) (a′, b′)
+pair p q = ap₂ (λ (x : Lent.Answer) (y : List ℕ). (x, y)) p q
+
+module _ (x : Memories) where
+  begins : fits x ≡ true → first (freshLines (cellsOf x)) ≡ none
+  begins e = ap (λ (b : Bool). first (freshLines (if b then cellsLent (x .cells) else 0))) e ∙ count-fits x e
+
+  -- no memory is 0 cells
+  begins-not : fits x ≡ false → first (freshLines (cellsOf x)) ≡ some memoryLength
+  unfolding freshLines first
+  begins-not e = ap (λ (b : Bool). first (freshLines (if b then cellsLent (x .cells) else 0))) e
+
+  says : (s : State) (o : Option Refusal) → first (freshLines (cellsOf x)) ≡ o → answer₁ s (hostCall (begin x)) ≡ startAnswer o
+  unfolding hostCall answer₁
+  says s o e = ap startAnswer e
+
+  becomes : (s : State) (o : Option Refusal) → first (freshLines (cellsOf x)) ≡ o → after₁ s (hostCall (begin x)) ≡ startUnlessRefused o (cellsOf x) s
+  unfolding hostCall after₁
+  becomes s o e = ap (λ (r : Option Refusal). startUnlessRefused r (cellsOf x) s) e
+
+  module _ (m : Memories) (s : State) (S : Stands m s) where
+    begun-follows : fits x ≡ true → Follows₁ m s (begin x)
+    unfolding memoriesAfter₁ startUnlessRefused startAnswer numbersOf handedBack
+    begun-follows e =
+        record {
+          sees = pair (fresh-theorems x .fresh-answers e) refl ∙ ap (shown []) (sym (says s none (begins e)));
+          stands = subst (Stands _) (sym (becomes s none (begins e) ∙ ap (λ (b : Bool). fresh (if b then cellsLent (x .cells) else 0)) e))
+              (subst (λ (b : Bool). Stands (if b then begun x .memories else m) (fresh (cellsLent (x .cells)))) (sym e) (fresh-theorems x .stands-fresh e));
+        }
+
+    refused-follows : fits x ≡ false → Follows₁ m s (begin x)
+    unfolding memoriesAfter₁ startUnlessRefused startAnswer numbersOf handedBack
+    refused-follows e =
+        record {
+          sees = pair (ap (λ (d : Done). d .answer) (fresh-refused x e)) (ap (λ (d : Done). d .buffer) (fresh-refused x e)) ∙ ap (shown []) (sym (says s (some memoryLength) (begins-not e)));
+          stands = subst (Stands _) (sym (becomes s (some memoryLength) (begins-not e)))
+              (subst (λ (b : Bool). Stands (if b then begun x .memories else m) s) (sym e) S);
+        }
+
+follows₁ : (m : Memories) (s : State) → Stands m s → (c : Made) → MayBeMade c → Follows₁ m s c
+unfolding memoriesAfter₁ hostCall after₁ answer₁ numbersOf handedBack
+follows₁ m s S (begin x) h = on (fits x) (begun-follows x m s S) (refused-follows x m s S)
+follows₁ m s S (call c buffer) h = let f = follows c m s S buffer h in record { sees = pair (f .same-answer) (f .same-bytes); stands = f .stands-kept }
+follows₁ m s S (misfit c x buffer) h =
+    let same = refused-exactly x c buffer .misfit-is-one h in
+    record { sees = pair (ap (λ (d : Done). d .answer) same) (ap (λ (d : Done). d .buffer) same); stands = S }
+
 -- ---- one after another
 
 seen-expected : (m : Memories) (s : State) → Stands m s → (made : List Made) → AllHanded made → seen m made ≡ expected s made
 unfolding seen expected
 seen-expected m s S [] h = refl
 seen-expected m s S (c ∷ cs) (also h t) =
-    let f = follows (c .call) m s S (c .buffer) h in
-    ap₂ (_∷_) (ap₂ (λ (a : Lent.Answer) (b : List ℕ). (a, b)) (f .same-answer) (f .same-bytes))
-    (seen-expected (ran m c .memories) (next s (perform s (c .call))) (f .stands-kept) cs t)
+    let f = follows₁ m s S c h in ap₂ (_∷_) (f .sees) (seen-expected (memoriesAfter₁ m c) (after₁ s (hostCall c)) (f .stands) cs t)
 
-stands-after : (m : Memories) (s : State) → Stands m s → (made : List Made) → AllHanded made → Stands (memoriesAfter m made) (after s (calls made))
-unfolding memoriesAfter after
+stands-after : (m : Memories) (s : State) → Stands m s → (made : List Made) → AllHanded made → Stands (memoriesAfter m made) (life s (hostCalls made))
+unfolding memoriesAfter life
 stands-after m s S [] h = S
-stands-after m s S (c ∷ cs) (also h t) =
-    stands-after (ran m c .memories) (next s (perform s (c .call))) (follows (c .call) m s S (c .buffer) h .stands-kept) cs t
+stands-after m s S (c ∷ cs) (also h t) = stands-after (memoriesAfter₁ m c) (after₁ s (hostCall c)) (follows₁ m s S c h .stands) cs t
 
 -- no call changes the cell count
 count-after : (s : State) (cs : List Call) → after s cs .cellCount ≡ s .cellCount
@@ -79,15 +163,19 @@ unfolding after next
 count-after s [] = refl
 count-after s (c ∷ cs) = count-after (next s (perform s c)) cs
 
-pub history-theorems : (cells links addresses : List ℕ) (fit : lengthsFit cells links addresses ≡ true) (made : List Made) (h : AllHanded made)
-    → HistoryTheorems cells links addresses fit made h
+fresh-count : (n : ℕ) (cs : List Call) → after (fresh n) cs .cellCount ≡ n
 unfolding fresh
-history-theorems cells links addresses fit made h =
-    let n = cellsLent cells in
-    let start = Fresh.stands-fresh cells links addresses fit .1 in
-    let after-all = stands-after (freshMemories cells links addresses) (fresh n) start made h in
+fresh-count n cs = count-after (fresh n) cs
+
+pub history-theorems : (x : Memories) (fit : fits x ≡ true) (made : List Made) (h : AllHanded made) → HistoryTheorems x fit made h
+history-theorems x fit made h =
+    let n = cellsLent (x .cells) in
+    let started = fresh-theorems x .stands-fresh fit in
+    let now = currentAfter (Machine.begun n) (hostCalls made) in
+    let after-all = stands-after (begun x .memories) (fresh n) started made h in
     record {
-      histories = seen-expected (freshMemories cells links addresses) (fresh n) start made h;
+      histories = seen-expected (begun x .memories) (fresh n) started made h;
       stands = after-all;
-      holds = memory-holds n (memoriesAfter (freshMemories cells links addresses) made) (calls made) after-all (count-after (fresh n) (calls made));
+      holds = memory-holds (now .cells) (memoriesAfter (begun x .memories) made) (now .calls)
+          (subst (Stands (memoriesAfter (begun x .memories) made)) (life-theorems .state-is n (hostCalls made)) after-all) (fresh-count (now .cells) (now .calls));
     }

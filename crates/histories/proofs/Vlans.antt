@@ -15,8 +15,9 @@ use Rattle.rules.specs.Refusals.{vlanLines, clearVlanLines}
 use Rattle.rules.proofs.Choice.{each-first, each-rest}
 use Rattle.rules.proofs.Lines.{holds-none}
 use Rattle.machine.specs.State.{vlan, clearVlan}
-use Rattle.machine.specs.SettingCalls.{mostVlans, settle, withEntry, withoutEntry, noEntryLeft, withVlans}
-use Rattle.machine.specs.Machine.{linesOf, act}
+use Rattle.rules.specs.Numbers.{mostVlans}
+use Rattle.machine.specs.SettingCalls.{settle, withEntry, withoutEntry, noEntryLeft, withVlans}
+use Rattle.machine.specs.Machine.{linesOf, carryOut}
 use Rattle.machine.specs.Demands.{vids}
 use Rattle.machine.proofs.Settings.{distinct-entry, distinct-cleared}
 use Rattle.settings.specs.Table.{vlanCount, vidAt, foundVlan}
@@ -107,7 +108,7 @@ unfolding clearVlanLines
 clear-vlan-allowed b vid e = not-false b (each-first (each-rest (holds-none _ e)))
 
 pub vlan-follows : (n : VlanNumbers) → CallFollows (vlan n)
-unfolding run vlanCall vlanRefusals linesOf act settingsOf
+unfolding run vlanCall vlanRefusals linesOf carryOut settingsOf
 vlan-follows n m s S buffer handed =
     let l = m .links in
     let range = S .settings .in-range in
@@ -125,7 +126,7 @@ vlan-follows n m s S buffer handed =
     entry-stands l (links-long m s S) range (rw listed (S .settings .once)) n (allowed .0) (rw listed (allowed .1)))
 
 pub clear-vlan-follows : (vid : ℕ) → CallFollows (clearVlan vid)
-unfolding run clearVlanCall clearVlanRefusals linesOf act settingsOf
+unfolding run clearVlanCall clearVlanRefusals linesOf carryOut settingsOf
 clear-vlan-follows vid m s S buffer handed =
     let l = m .links in
     let range = S .settings .in-range in

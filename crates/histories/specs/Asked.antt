@@ -16,16 +16,16 @@ cameTo answer buffer m = record { answer = answer; buffer = buffer; memories = m
 
 -- `frame`: a frame-in's; `room`: the length of take's buffer
 unfoldable pub asked : List ℕ → ℕ → Code.Call → Call
-asked frame room (FrameIn p) = frameIn p (record { bytes = frame })
-asked frame room (Take p) = take p room
+asked frame room (FrameIn p) = frameIn (record { port = p; packet = record { bytes = frame } })
+asked frame room (Take p) = take (record { port = p; buffer = room })
 asked frame room Age = age
-asked frame room (Counter p k) = counter p k
-asked frame room (Port p new) = port p (portIs new)
+asked frame room (Counter p k) = counter (record { port = p; number = k })
+asked frame room (Port p new) = port (record { port = p; new = portIs new })
 asked frame room (Vlan new) = vlan (vlanIs new)
 asked frame room (ClearVlan vid) = clearVlan vid
-asked frame room (Static gid p address) = static gid p address
-asked frame room (Remove gid address) = remove gid address
-asked frame room (Map pcp q) = map pcp q
-asked frame room (QueueSwitch p q on) = queueSwitch p q on
+asked frame room (Static gid p address) = static (record { gid = gid; port = p; address = address })
+asked frame room (Remove gid address) = remove (record { gid = gid; address = address })
+asked frame room (Map pcp q) = map (record { pcp = pcp; queue = q })
+asked frame room (QueueSwitch p q on) = queueSwitch (record { port = p; queue = q; on = on })
 asked frame room (Drain p) = drain p
 asked frame room (Bpdu on) = bpdu on

@@ -14,19 +14,19 @@ use Rattle.histories.specs.Memories.{Memories, Done}
 use Rattle.histories.specs.Stands.{Stands}
 use Rattle.histories.specs.Runs.{run}
 
--- What a driver can hand over: a frame is of bytes, and take's room is the length of the buffer that it lends. The other numbers are any.
+-- What a driver can hand over: a frame is of bytes, and the length that a take names is that of the buffer it lends. The other numbers are any.
 unfoldable pub Handed : Call → List ℕ → Type 0
-Handed (frameIn p k) buffer = Bytes (k .bytes)
-Handed (take p room) buffer = room ≡ length buffer
+Handed (frameIn c) buffer = Bytes (c .packet .bytes)
+Handed (take c) buffer = c .buffer ≡ length buffer
 Handed age buffer = Unit {0}
-Handed (counter p k) buffer = Unit {0}
-Handed (port p n) buffer = Unit {0}
+Handed (counter c) buffer = Unit {0}
+Handed (port c) buffer = Unit {0}
 Handed (vlan n) buffer = Unit {0}
 Handed (clearVlan vid) buffer = Unit {0}
-Handed (static gid p address) buffer = Unit {0}
-Handed (remove gid address) buffer = Unit {0}
-Handed (map pcp q) buffer = Unit {0}
-Handed (queueSwitch p q on) buffer = Unit {0}
+Handed (static c) buffer = Unit {0}
+Handed (remove c) buffer = Unit {0}
+Handed (map c) buffer = Unit {0}
+Handed (queueSwitch c) buffer = Unit {0}
 Handed (drain p) buffer = Unit {0}
 Handed (bpdu on) buffer = Unit {0}
 

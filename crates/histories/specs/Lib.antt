@@ -1,6 +1,8 @@
 pub mod Memories
 pub mod Stands
 pub mod Runs
+pub mod Lines
+pub mod RefusalTheorems
 pub mod Follows
 pub mod Histories
 pub mod Demands

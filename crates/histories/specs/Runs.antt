@@ -30,19 +30,19 @@ abbrev pub onAddresses : Memories → List ℕ → Answer × List ℕ → Done
 onAddresses m buffer r =
     record { answer = r .0; buffer = buffer; memories = record { cells = m .cells; links = m .links; addresses = r .1 } }
 
--- ---- a call: only take writes to the buffer, and its room is the buffer's length
+-- ---- a call: only take writes to the buffer, and the length that it is handed is the buffer's
 
 unfoldable pub run : Memories → Call → List ℕ → Done
-run m (frameIn p k) buffer = onAll buffer (frameInCall (m .cells) (m .links) (m .addresses) p (k .bytes))
-run m (take p room) buffer = onBuffer m (takeCall (m .cells) (m .links) p buffer)
+run m (frameIn c) buffer = onAll buffer (frameInCall (m .cells) (m .links) (m .addresses) (c .port) (c .packet .bytes))
+run m (take c) buffer = onBuffer m (takeCall (m .cells) (m .links) (c .port) buffer)
 run m age buffer = onAddresses m buffer (ageCall (m .addresses))
-run m (counter p k) buffer = onLinks m buffer (counterCall (m .links) p k)
-run m (port p n) buffer = onLinks m buffer (portCall (m .links) p n)
+run m (counter c) buffer = onLinks m buffer (counterCall (m .links) (c .port) (c .number))
+run m (port c) buffer = onLinks m buffer (portCall (m .links) (c .port) (c .new))
 run m (vlan n) buffer = onLinks m buffer (vlanCall (m .links) n)
 run m (clearVlan vid) buffer = onLinks m buffer (clearVlanCall (m .links) vid)
-run m (static gid p address) buffer = onAddresses m buffer (staticCall (m .addresses) gid p address)
-run m (remove gid address) buffer = onAddresses m buffer (removeCall (m .addresses) gid address)
-run m (map pcp q) buffer = onLinks m buffer (mapCall (m .links) pcp q)
-run m (queueSwitch p q on) buffer = onLinks m buffer (queueSwitchCall (m .links) p q on)
+run m (static c) buffer = onAddresses m buffer (staticCall (m .addresses) (c .gid) (c .port) (c .address))
+run m (remove c) buffer = onAddresses m buffer (removeCall (m .addresses) (c .gid) (c .address))
+run m (map c) buffer = onLinks m buffer (mapCall (m .links) (c .pcp) (c .queue))
+run m (queueSwitch c) buffer = onLinks m buffer (queueSwitchCall (m .links) (c .port) (c .queue) (c .on))
 run m (drain p) buffer = onLinks m buffer (drainCall (m .links) p)
 run m (bpdu on) buffer = onLinks m buffer (bpduCall (m .links) on)

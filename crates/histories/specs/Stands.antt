@@ -7,7 +7,7 @@ use lib.ListN.{getD}
 use Rattle.rules.specs.Choice.{Distinct}
 use Rattle.rules.specs.Settings.{Settings}
 use Rattle.rules.specs.Addresses.{Table}
-use Rattle.rules.specs.Counters.{lastCounter}
+use Rattle.rules.specs.Numbers.{lastCounter}
 use Rattle.rules.specs.Arguments.{portInRange, vlanInRange}
 use Rattle.machine.specs.Events.{Counts}
 use Rattle.machine.specs.State.{State}

@@ -1,26 +1,30 @@
--- What makes the promises mean document 01: memory stands for the machine, over every history. `proofs/Theorems.antt` proves it.
+-- What makes the promises mean the rules: memory stands for the machine, over every history. `proofs/Theorems.antt` proves it.
 -- Assumes nothing: these are definitions.
 use Prim.Native.Nat.{ℕ}
 use mathlib.Core.Path.{_≡_}
-use mathlib.Core.Bool.{true}
-use mathlib.Core.List.{List}
+use mathlib.Core.Bool.{true, false}
+use mathlib.Core.List.{List, []}
 use lib.Seq.{sets}
+use Rattle.rules.specs.Refusals.{memoryLength}
 use Rattle.machine.specs.State.{State, Call}
 use Rattle.machine.specs.Machine.{perform, next}
-use Rattle.machine.specs.History.{fresh, after}
+use Rattle.machine.specs.History.{fresh, life, currentAfter}
+use Rattle.machine.specs.LifeTheorems as Machine
 use Rattle.lent.specs.Answers.{doneWith}
-use Rattle.fresh_call.specs.Calls.{cellsLent, lengthsFit, freshCall}
+use Rattle.fresh_call.specs.Calls.{cellsLent}
 use Rattle.histories.specs.Memories.{Memories}
 use Rattle.histories.specs.Stands.{Stands}
 use Rattle.histories.specs.Runs.{run}
 use Rattle.histories.specs.Follows.{Handed, numbersOf, handedBack}
+use Rattle.histories.specs.RefusalTheorems.{unchanged}
 use Rattle.histories.specs.Demands.{MemoryHolds}
-use Rattle.histories.specs.Histories.{Made, calls, AllHanded, memoriesAfter, seen, freshMemories, expected}
+use Rattle.histories.specs.Histories.{Made, AllHanded, fits, begun, memoriesAfter, seen, hostCalls, expected}
 
--- a fresh call that is not refused, whatever the memories held before
-pub record FreshTheorems (cells links addresses : List ℕ) (fit : lengthsFit cells links addresses ≡ true) : Type 0 where
-  pub fresh-answers : freshCall cells links addresses .0 ≡ doneWith 0 0
-  pub stands-fresh : Stands (freshMemories cells links addresses) (fresh (cellsLent cells))
+-- a fresh call, whatever the memories held before
+pub record FreshTheorems (x : Memories) : Type 0 where
+  pub fresh-answers : fits x ≡ true → begun x .answer ≡ doneWith 0 0
+  pub stands-fresh : fits x ≡ true → Stands (begun x .memories) (fresh (cellsLent (x .cells)))
+  pub fresh-refused : fits x ≡ false → begun x ≡ unchanged memoryLength x []
 
 -- any call with any arguments, on memories that stand for a state
 pub record CallTheorems (m : Memories) (s : State) (stands : Stands m s) (c : Call) (buffer : List ℕ) (handed : Handed c buffer) : Type 0 where
@@ -32,10 +36,12 @@ pub record CallTheorems (m : Memories) (s : State) (stands : Stands m s) (c : Ca
   pub never-one : run m c buffer .answer .refusal ≡ 1 → ⊥
   pub never-ten : run m c buffer .answer .refusal ≡ 10 → ⊥
 
--- a fresh call and any list of calls after it
-pub record HistoryTheorems (cells links addresses : List ℕ) (fit : lengthsFit cells links addresses ≡ true) (made : List Made) (handed : AllHanded made) : Type 0 where
+-- a fresh call that is done, and any list of the fourteen calls after it
+pub record HistoryTheorems (x : Memories) (fit : fits x ≡ true) (made : List Made) (handed : AllHanded made) : Type 0 where
   -- What the driver sees of each call is what the machine says, and the memories stand for the machine's state.
-  pub histories : seen (freshMemories cells links addresses) made ≡ expected (fresh (cellsLent cells)) made
-  pub stands : Stands (memoriesAfter (freshMemories cells links addresses) made) (after (fresh (cellsLent cells)) (calls made))
-  -- Demand 3, of the memories themselves.
-  pub holds : MemoryHolds (cellsLent cells) (memoriesAfter (freshMemories cells links addresses) made) (calls made)
+  pub histories : seen (begun x .memories) made ≡ expected (fresh (cellsLent (x .cells))) made
+  pub stands : Stands (memoriesAfter (begun x .memories) made) (life (fresh (cellsLent (x .cells))) (hostCalls made))
+  -- Demand 3, of the memories themselves: of the history that is under way.
+  pub holds : MemoryHolds (currentAfter (Machine.begun (cellsLent (x .cells))) (hostCalls made) .cells)
+      (memoriesAfter (begun x .memories) made)
+      (currentAfter (Machine.begun (cellsLent (x .cells))) (hostCalls made) .calls)

@@ -10,7 +10,7 @@ use Rattle.rules.specs.Cells as Rules
 use Rattle.rules.specs.Tags.{Tag, headerOf, tagsOf}
 use Rattle.rules.specs.Operations.{Operation, leavingTags, retagged}
 use Rattle.rules.specs.Arguments.{flag, operationInRange, operationOf}
-use Rattle.rules.specs.Arrival.{Frame}
+use Rattle.rules.specs.Outcomes.{Frame}
 use Rattle.cells.specs.Free.{sizeOf, frameCells}
 use Rattle.cells.specs.Bytes.{headerIn, frameIn}
 use Rattle.cells.specs.Stored.{storedOf, storedInRange, storedOperation}

@@ -5,7 +5,7 @@ use mathlib.Core.List.{List, [], _∷_}
 use native.Mathlib.Omega.{arith}
 use lib.ListN.{length, drop}
 use Rattle.rules.specs.Tags.{Header, Tag, headerOf}
-use Rattle.rules.specs.Operations.{Kind, none, pop, push, swap, popAll, Operation, Origin, headerAt, from, newTag, act, operate}
+use Rattle.rules.specs.Operations.{Kind, none, pop, push, swap, popAll, Operation, Origin, headerAt, from, newTag, onStack, operate}
 use Rattle.rules.specs.Arguments.{kindOf, typeOf, sourceOf}
 use Rattle.tags.specs.Numbers.{tagIs, joinedTag}
 use Rattle.leaving_tags.specs.Operations.{operationIs}
@@ -70,37 +70,37 @@ kind-all (suc (suc (suc (suc k)))) h = refl
 
 module _ (o : Origin) (op : Code.Operation) (stack : List Tag) where
   pub operated-none : op .kind ≡ 0 → stack ≡ operate o (operationIs op) stack
-  unfolding operate act operationIs kindOf
+  unfolding operate onStack operationIs kindOf
   operated-none e = rw e
 
   pub operated-pop : op .kind ≡ 1 → drop 1 stack ≡ operate o (operationIs op) stack
-  unfolding operate act operationIs kindOf
+  unfolding operate onStack operationIs kindOf
   operated-pop e = rw e
 
   pub operated-push : op .kind ≡ 2 → newTag o (operationIs op) ∷ stack ≡ operate o (operationIs op) stack
-  unfolding operate act operationIs kindOf
+  unfolding operate onStack operationIs kindOf
   operated-push e = rw e
 
   pub operated-swap : op .kind ≡ 3 → newTag o (operationIs op) ∷ drop 1 stack ≡ operate o (operationIs op) stack
-  unfolding operate act operationIs kindOf
+  unfolding operate onStack operationIs kindOf
   operated-swap e = rw e
 
   pub operated-pop-all : 3 < op .kind → [] ≡ operate o (operationIs op) stack
-  unfolding operate act operationIs
+  unfolding operate onStack operationIs
   operated-pop-all h = rw (kind-all (op .kind) h)
 
 -- ---- how many tags leave
 
-act-length : (k : Kind) (new : Tag) (stack : List Tag) → length (act k new stack) ≤ length stack + 1
-unfolding act
-act-length none new stack = omega arith
-act-length pop new [] = omega arith
-act-length pop new (t ∷ stack) = omega arith
-act-length push new stack = omega arith
-act-length swap new [] = omega arith
-act-length swap new (t ∷ stack) = omega arith
-act-length popAll new stack = omega arith
+on-stack-length : (k : Kind) (new : Tag) (stack : List Tag) → length (onStack k new stack) ≤ length stack + 1
+unfolding onStack
+on-stack-length none new stack = omega arith
+on-stack-length pop new [] = omega arith
+on-stack-length pop new (t ∷ stack) = omega arith
+on-stack-length push new stack = omega arith
+on-stack-length swap new [] = omega arith
+on-stack-length swap new (t ∷ stack) = omega arith
+on-stack-length popAll new stack = omega arith
 
 pub operate-length : (o : Origin) (op : Operation) (stack : List Tag) → length (operate o op stack) ≤ length stack + 1
 unfolding operate
-operate-length o op stack = act-length (op .kind) (newTag o op) stack
+operate-length o op stack = on-stack-length (op .kind) (newTag o op) stack

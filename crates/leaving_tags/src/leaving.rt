@@ -13,7 +13,7 @@ ghost use Rattle.rules.specs.Arguments.{typeOf, sourceOf, operationOf};
 ghost use Rattle.tags.specs.Numbers.{tagIs, joinedTag, stackIs, originIs};
 ghost use Rattle.leaving_tags.specs.Operations.{operationIs};
 
-// Kind, type and sources by document 01's numbers; the header is PCP · 8192 + DEI · 4096 + VID.
+// Kind, type and sources by the numbers of the calls; the header is PCP · 8192 + DEI · 4096 + VID.
 pub struct Operation {
     pub kind: u32,
     pub tag_type: u32,

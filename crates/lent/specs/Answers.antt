@@ -1,4 +1,4 @@
--- What a call answers: a refusal's number alone, or 0 with document 01's x and y; and a call as its lines, then what it does.
+-- What a call answers: a refusal's number alone, or 0 with x and y; and a call as its lines, then what it does.
 -- Assumes nothing: these are definitions.
 use Prim.Native.Nat.{ℕ}
 use mathlib.Core.Bool.{Bool, not}

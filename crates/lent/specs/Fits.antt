@@ -1,14 +1,14 @@
 -- What memory of the right length gives a caller. Assumes nothing.
 use Prim.Native.Nat.{ℕ, _≤_}
-use mathlib.Core.Path.{_≡_, refl, sym, _∙_}
-use mathlib.Core.Bool.{Bool, true, false, _&&_}
+use mathlib.Core.Path.{_≡_, refl}
+use mathlib.Core.Bool.{true, false, _&&_}
 use mathlib.Core.List.{List, [], _∷_}
 use native.Mathlib.Omega.{arith}
 use lib.Dec.{eqb, leb}
 use lib.ListN.{length}
-use borrow.Author.Tests.{leb-true, eqb-true, eq-eqb}
+use borrow.Author.Tests.{leb-true, eqb-true}
 use Rattle.rules.specs.Cells.{fewestCells, mostCells}
-use Rattle.rules.specs.Addresses.{placeCount}
+use Rattle.rules.specs.Numbers.{placeCount}
 use Rattle.rules.proofs.Choice.{and-left, and-right}
 use Rattle.layout.specs.Places.{linkWords, cellBytes}
 use Rattle.lent.specs.Lengths.{cellCount, isCellCount, linksFit, cellsFit, addressesFit}

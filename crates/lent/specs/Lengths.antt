@@ -6,7 +6,7 @@ use lib.Dec.{eqb, leb}
 use lib.ListN.{length, getD}
 use Rattle.rules.specs.Choice.{if_then_else_}
 use Rattle.rules.specs.Cells.{fewestCells, mostCells}
-use Rattle.rules.specs.Addresses.{placeCount}
+use Rattle.rules.specs.Numbers.{placeCount}
 use Rattle.layout.specs.Places.{linkWords, cellBytes, cellCountWord}
 
 abbrev pub cellCount : List ℕ → ℕ

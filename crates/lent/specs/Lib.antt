@@ -2,3 +2,4 @@ pub mod Lengths
 pub mod Answers
 pub mod Laws
 pub mod Fits
+pub mod LengthTheorems

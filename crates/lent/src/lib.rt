@@ -4,7 +4,7 @@ ghost use mathlib.Core.Bool.{true};
 ghost use lib.ListN.{length};
 ghost use Rattle.lent.specs.Lengths.{cellCount, isCellCount, linkWordsFor, linksFit, cellsFit, addressesFit};
 
-// Refusal 0: x and y as in document 01's lines. Else x and y are 0.
+// Refusal 0: x and y as in the bench program's lines. Else x and y are 0.
 #[repr(C)]
 pub struct Answer {
     pub refusal: u32,

@@ -1,4 +1,4 @@
--- Document 01, "Bench program": where the next record ends. Assumes nothing: these are definitions.
+-- The bench program: where the next record ends. Assumes nothing: these are definitions.
 use Prim.Native.Nat.{ℕ, _+_}
 use mathlib.Core.Bool.{Bool}
 use mathlib.Core.List.{List}

@@ -1,4 +1,4 @@
--- Document 01, "Bench program": the line of a record. Assumes nothing: these are definitions.
+-- The bench program: the line of a record. Assumes nothing: these are definitions.
 use Prim.Native.Nat.{ℕ, zero, suc, _+_, _/_, _%_}
 use mathlib.Core.List.{List, [], _∷_, _++_}
 use lib.Dec.{eqb, ltb}

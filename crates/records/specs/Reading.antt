@@ -1,4 +1,4 @@
--- Document 01, "Bench program": the numbers of a record. Assumes nothing: these are definitions.
+-- The bench program: the numbers of a record. Assumes nothing: these are definitions.
 use Prim.Native.Nat.{ℕ, _+_, _*_}
 use mathlib.Core.List.{List}
 use lib.ListN.{getD}

@@ -1,4 +1,4 @@
--- Document 01, "Bench program": what a record asks of the switch. Assumes nothing: these are definitions.
+-- The bench program: what a record asks of the switch. Assumes nothing: these are definitions.
 use Prim.Native.Nat.{ℕ, _+_}
 use mathlib.Core.Bool.{Bool, true, false}
 use mathlib.Core.List.{List, [], _∷_}

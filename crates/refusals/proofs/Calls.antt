@@ -1,14 +1,14 @@
--- Every call over lent memory is refused exactly by its lines, and what it promises is unique. Assumes nothing.
+-- Every call over lent memory is refused exactly by its lines, and its promise is a function. Assumes nothing.
 use Prim.Native.Nat.{ℕ}
 use mathlib.Core.Path.{_≡_, refl, ap}
 use mathlib.Core.List.{List}
 use native.Mathlib.Omega.{arith}
 use Rattle.rules.specs.Refusals.{refusalNumber, frameInLines, takeLines, ageLines, counterLines, portLines, vlanLines, clearVlanLines, staticLines, removeLines, mapLines, queueSwitchLines, drainLines, bpduLines}
-use Rattle.machine.specs.FrameIn.{Outcome, drops, queues}
+use Rattle.rules.specs.Outcomes.{Outcome, drops, queues, outcomeOf}
 use Rattle.lent.specs.Lengths.{cellCount}
 use Rattle.lent.specs.declared.Answer.{Answer}
 use Rattle.fresh_call.specs.Calls.{freshRefusals, freshCall}
-use Rattle.frame_in.specs.Call.{answerFor, enteredAs, entered, outcomeFor, verdictOf, frameInRefusals, frameInCall}
+use Rattle.frame_in.specs.Call.{factsIn, answerFor, entered, frameInRefusals, frameInCall}
 use Rattle.take_out.specs.declared.serving.Next.{Next}
 use Rattle.take_out.specs.declared.serving.Next.the-variants.{Frame, Nobody, Damaged}
 use Rattle.take_out.specs.Serving.{served}
@@ -19,7 +19,7 @@ use Rattle.setting_calls.specs.Calls.{counterRefusals, counterCall, portRefusal
 use Rattle.setting_calls.specs.Vlans.{vlanRefusals, vlanCall, clearVlanRefusals, clearVlanCall}
 use Rattle.refusals.specs.Promises.{Refuses, HandsBack}
 use Rattle.refusals.specs.RefusalTheorems.{RefusalTheorems}
-use Rattle.refusals.proofs.Refused.{unique, refused-as, refuses}
+use Rattle.refusals.proofs.Refused.{of-a-function, refused-as, refuses}
 
 -- what a call does is no refusal
 
@@ -38,10 +38,10 @@ taken-done cells n links port out Damaged = refl
 
 frame-in-refuses : (cells links addresses : List ℕ) (port : ℕ) (frame : List ℕ)
     → Refuses (frameInRefusals cells links addresses port frame) (cells, links, addresses) (frameInCall cells links addresses port frame)
-unfolding frameInCall frameInLines entered enteredAs refusalNumber
+unfolding frameInCall frameInLines entered refusalNumber
 frame-in-refuses cells links addresses port frame =
     refuses (frameInRefusals cells links addresses port frame) (cells, links, addresses) (entered port frame cells links addresses)
-    (outcome-done (outcomeFor links (verdictOf links addresses port frame)))
+    (outcome-done (outcomeOf (factsIn links addresses port frame)))
     (omega arith, (omega arith, tt))
 
 module _ (cells links : List ℕ) (port : ℕ) (out : List ℕ) where
@@ -59,7 +59,7 @@ module _ (cells links : List ℕ) (port : ℕ) (out : List ℕ) where
   take-hands-back =
       record {
         empty-if-refused = λ r f. ap (λ (o : Answer × Memory). handedBack o) (take-refuses .nothing-else r f);
-        unique = unique (handedBack (takeCall cells links port out));
+        of-a-function = of-a-function (handedBack (takeCall cells links port out));
       }
 
 pub refusal-theorems : RefusalTheorems

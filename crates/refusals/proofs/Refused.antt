@@ -11,11 +11,11 @@ use Rattle.rules.proofs.Choice.{onOption}
 use Rattle.rules.proofs.Lines.{says-exactly, holds-none, none-holds}
 use Rattle.lent.specs.declared.Answer.{Answer}
 use Rattle.lent.specs.Answers.{refusedBy, orRefused}
-use Rattle.refusals.specs.Promises.{Unique, Refuses}
+use Rattle.refusals.specs.Promises.{OfAFunction, Refuses}
 use Rattle.refusals.proofs.Numbers.{same-number, number-above-none}
 
-pub unique : {A : Type 0} (promised : A) → Unique promised
-unique promised one other e f = e ∙ sym f
+pub of-a-function : {A : Type 0} (promised : A) → OfAFunction promised
+of-a-function promised one other e f = e ∙ sym f
 
 module _ {M : Type 0} (lines : Lines) (memory : M) (step : Answer × M) where
   abbrev promised : Answer × M
@@ -41,5 +41,5 @@ module _ {M : Type 0} (lines : Lines) (memory : M) (step : Answer × M) where
           refused-exactly = λ r. (first-of r, λ f. ap (λ (o : Answer × M). o .0 .refusal) (refused-as r f));
           nothing-else = refused-as;
           done-exactly = (none-of, λ h. ap (λ (o : Option Refusal). orRefused o memory step .0 .refusal) (none-holds lines h) ∙ undone);
-          unique = unique promised;
+          of-a-function = of-a-function promised;
         }

@@ -1,4 +1,4 @@
--- What document 01's "Refused calls" asks of a call over lent memory, whatever its lines are. Assumes nothing: these are definitions.
+-- What the table of refusals asks of a call over lent memory, whatever its lines are. Assumes nothing: these are definitions.
 use Prim.Native.Nat.{ℕ}
 use mathlib.Core.Path.{_≡_}
 use mathlib.Core.Logic.{_↔_}
@@ -10,9 +10,9 @@ use Rattle.rules.specs.Refusals.{Refusal, Lines, refusalNumber}
 use Rattle.lent.specs.declared.Answer.{Answer}
 use Rattle.lent.specs.Answers.{refusedBy}
 
--- two programs that meet one promise answer the same and leave the same memories
-abbrev pub Unique : {A : Type 0} → A → Type 0
-Unique {A} promised = (one other : A) → one ≡ promised → other ≡ promised → one ≡ other
+-- A promise is a function: for every argument and memory it gives one answer and one memory, so that two programs that meet it do the same.
+abbrev pub OfAFunction : {A : Type 0} → A → Type 0
+OfAFunction {A} promised = (one other : A) → one ≡ promised → other ≡ promised → one ≡ other
 
 -- a call with these lines, on this memory, that promises this answer and this memory
 pub record Refuses {M : Type 0} (lines : Lines) (memory : M) (promised : Answer × M) : Type 0 where
@@ -23,9 +23,9 @@ pub record Refuses {M : Type 0} (lines : Lines) (memory : M) (promised : Answer 
   -- "nothing changes, counters included; the answer is only the number"
   pub nothing-else : (r : Refusal) → FirstOf lines r → promised ≡ (refusedBy r, memory)
   pub done-exactly : (promised .0 .refusal ≡ 0) ↔ Each Fails lines
-  pub unique : Unique promised
+  pub of-a-function : OfAFunction promised
 
 -- a call that hands back a part instead of an answer: "a refusal hands back an empty part and writes nothing"
 pub record HandsBack (lines : Lines) (memory : List ℕ) (promised : List ℕ × List ℕ) : Type 0 where
   pub empty-if-refused : (r : Refusal) → FirstOf lines r → promised ≡ (memory, [])
-  pub unique : Unique promised
+  pub of-a-function : OfAFunction promised

@@ -1,4 +1,4 @@
--- Every call over lent memory is refused exactly by its lines, and what it promises is unique. `proofs/Calls.antt` proves it.
+-- Every call over lent memory is refused exactly by its lines, and its promise is a function. `proofs/Calls.antt` proves it.
 -- Assumes nothing: these are definitions.
 use Prim.Native.Nat.{ℕ}
 use mathlib.Core.List.{List}

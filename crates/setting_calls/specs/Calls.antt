@@ -16,7 +16,7 @@ use Rattle.settings.specs.Records.{portWords}
 -- ---- counter: x is its value
 
 unfoldable pub counterRefusals : List ℕ → ℕ → ℕ → Lines
-counterRefusals links port number = lengthLine (linksFit links) ∷ counterLines port number
+counterRefusals links port number = lengthLine (linksFit links) ∷ counterLines (record { port = port; number = number })
 
 unfoldable pub counterCall : List ℕ → ℕ → ℕ → Answer × List ℕ
 counterCall links port number =
@@ -25,7 +25,7 @@ counterCall links port number =
 -- ---- port
 
 unfoldable pub portRefusals : List ℕ → ℕ → PortNumbers → Lines
-portRefusals links port new = lengthLine (linksFit links) ∷ portLines port new
+portRefusals links port new = lengthLine (linksFit links) ∷ portLines (record { port = port; new = new })
 
 unfoldable pub portCall : List ℕ → ℕ → PortNumbers → Answer × List ℕ
 portCall links port new =
@@ -34,7 +34,7 @@ portCall links port new =
 -- ---- map: the queue of a PCP
 
 unfoldable pub mapRefusals : List ℕ → ℕ → ℕ → Lines
-mapRefusals links pcp queue = lengthLine (linksFit links) ∷ mapLines pcp queue
+mapRefusals links pcp queue = lengthLine (linksFit links) ∷ mapLines (record { pcp = pcp; queue = queue })
 
 unfoldable pub mapCall : List ℕ → ℕ → ℕ → Answer × List ℕ
 mapCall links pcp queue = orRefused (first (mapRefusals links pcp queue)) links (doneWith 0 0, set links (mapWord pcp) queue)
@@ -42,7 +42,7 @@ mapCall links pcp queue = orRefused (first (mapRefusals links pcp queue)) links 
 -- ---- queue switch
 
 unfoldable pub queueSwitchRefusals : List ℕ → ℕ → ℕ → ℕ → Lines
-queueSwitchRefusals links port queue on = lengthLine (linksFit links) ∷ queueSwitchLines port queue on
+queueSwitchRefusals links port queue on = lengthLine (linksFit links) ∷ queueSwitchLines (record { port = port; queue = queue; on = on })
 
 unfoldable pub queueSwitchCall : List ℕ → ℕ → ℕ → ℕ → Answer × List ℕ
 queueSwitchCall links port queue on =

@@ -10,10 +10,10 @@ use lib.ListN.{length, length-map}
 use borrow.Author.Tests.{eqb-false}
 use Rattle.rules.specs.Choice.{if_then_else_, sift, among, changed, Distinct, Each, nobody, also}
 use Rattle.rules.specs.Cells.{cells, longest}
-use Rattle.rules.specs.Arrival.{Frame}
-use Rattle.rules.specs.PortTests.{allPorts}
+use Rattle.rules.specs.Outcomes.{Frame}
+use Rattle.rules.specs.Numbers.{allPorts}
 use Rattle.rules.proofs.Choice.{on, each-append, each-map, each-zip, eqb-self}
-use Rattle.machine.specs.Waiting.{Waiting, size, used, waitsAt, join}
+use Rattle.machine.specs.Waiting.{Waiting, size, cellsInUse, waitsAt, join}
 use Rattle.machine.specs.FrameIn.{mask}
 use Rattle.layout.specs.Places.{ringOfQueue}
 use Rattle.layout.specs.Same.{CellsSame}
@@ -44,8 +44,8 @@ sift-length t [] = omega arith
 sift-length t (x ∷ xs) = on (t x) (λ e. rw e (omega (arith, sift-length t xs))) (λ e. rw e (omega (arith, sift-length t xs)))
 
 -- each waiting frame has a cell
-frames-used : (ws : List Waiting) → length ws ≤ used ws
-unfolding used size
+frames-used : (ws : List Waiting) → length ws ≤ cellsInUse ws
+unfolding cellsInUse size
 frames-used [] = omega arith
 frames-used (w ∷ ws) = omega (arith, frames-used ws)
 
@@ -53,10 +53,10 @@ module _ (n : ℕ) (links : List ℕ) (ws : List Waiting) (T : LinkTraffic n lin
   abbrev l : Links
   l = linksIn n links (T .held)
 
-  ids-used : length (T .stands .ids) ≤ used ws
+  ids-used : length (T .stands .ids) ≤ cellsInUse ws
   ids-used = omega (arith, frames-used ws, ap length (sym (T .stands .holds)) ∙ length-map (T .stands .ids) (l .held))
 
-  pub ring-fits : (p q : ℕ) → p ≤ 4 → q < 4 → countOf links (ringOfQueue p q) ≤ used ws
+  pub ring-fits : (p q : ℕ) → p ≤ 4 → q < 4 → countOf links (ringOfQueue p q) ≤ cellsInUse ws
   unfolding linksIn
   ring-fits p q hp hq =
       omega (
@@ -67,7 +67,7 @@ module _ (n : ℕ) (links : List ℕ) (ws : List Waiting) (T : LinkTraffic n lin
         ids-used,
       )
 
-  pub free-room : freeCount links + used ws ≡ n
+  pub free-room : freeCount links + cellsInUse ws ≡ n
   unfolding linksIn
   free-room = omega (arith, T .stands .room, length-follow links (freeCount links) (firstFree links))
 

@@ -9,10 +9,10 @@ use lib.Dec.{eqb}
 use lib.ListN.{length, getD, set, drop, length-set}
 use lib.Seq.{getD-set-same, getD-set-other}
 use borrow.Author.Tests.{eqb-true, eqb-false}
-use Rattle.rules.specs.Choice.{if_then_else_, sift, among, without, changed, Distinct, Each, nobody, also}
+use Rattle.rules.specs.Choice.{if_then_else_, sift, among, without, changed, Distinct, Each, nobody, also, isNone}
 use Rattle.rules.proofs.Choice.{on, onList, and-left, eqb-self}
 use Rattle.machine.specs.Waiting.{Waiting, size, waitsAt, send}
-use Rattle.machine.specs.FrameIn.{mask, isNone}
+use Rattle.machine.specs.FrameIn.{mask}
 use Rattle.layout.specs.Places.{ringOfQueue, oldestWord, countWord, portsWord, nextWord, sizeWord, freeCountWord, firstFreeWord}
 use Rattle.layout.specs.Same.{CellsSame, RingSame}
 use Rattle.cells.specs.Chains.{follow}
@@ -41,7 +41,7 @@ waits-port : (p q : ℕ) (w : Waiting) → waitsAt p q w ≡ true → among p (w
 unfolding waitsAt
 waits-port p q w e = and-left (among p (w .ports)) (eqb q (w .frame .queue)) e
 
-size-some : (f : Rattle.rules.specs.Arrival.Frame) → 1 ≤ size f
+size-some : (f : Rattle.rules.specs.Outcomes.Frame) → 1 ≤ size f
 unfolding size
 size-some f = omega arith
 

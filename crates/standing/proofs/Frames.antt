@@ -12,8 +12,8 @@ use borrow.Author.Tests.{eqb-false}
 use Rattle.rules.specs.Choice.{sift, among, without, changed, Distinct, Each, nobody, also}
 use Rattle.rules.specs.Cells.{longest}
 use Rattle.rules.specs.Cells as Rules
-use Rattle.rules.specs.Arrival.{Frame}
-use Rattle.rules.specs.PortTests.{allPorts}
+use Rattle.rules.specs.Outcomes.{Frame}
+use Rattle.rules.specs.Numbers.{allPorts}
 use Rattle.rules.proofs.Choice.{onList, each-append, each-map, each-zip, eqb-self}
 use Rattle.machine.specs.Waiting.{Waiting, size, send, join}
 use Rattle.machine.specs.FrameIn.{mask}

@@ -9,7 +9,7 @@ use lib.ListN.{length}
 use Rattle.rules.specs.Choice.{if_then_else_, sift, nobody}
 use Rattle.rules.specs.Settings.{noOperation}
 use Rattle.rules.proofs.Choice.{on, eqb-sym}
-use Rattle.machine.specs.Waiting.{Waiting, used}
+use Rattle.machine.specs.Waiting.{Waiting, cellsInUse}
 use Rattle.layout.specs.Places.{linkWords, cellBytes, ringOfQueue}
 use Rattle.cells.specs.Chains.{count, one}
 use Rattle.cells.specs.Free.{freeCount, firstFree, freeCells}
@@ -59,7 +59,7 @@ module _ (n : ℕ) (links : List ℕ) (some : 1 ≤ n) (long : linkWords n ≤ l
   sound = fresh-sound n links fresh some
 
   stands : Stands n (linksIn n links nobody-waits) []
-  unfolding linksIn rowsOf times used ringOf sift
+  unfolding linksIn rowsOf times cellsInUse ringOf sift
   stands =
       record {
         ids = [];

@@ -8,11 +8,11 @@ use lib.Dec.{eqb, ltb}
 use lib.ListN.{length, length-append}
 use borrow.Author.Tests.{eqb-true}
 use Rattle.rules.specs.Choice.{if_then_else_, sift, among, without, changed, Each, nobody, also}
-use Rattle.rules.specs.Arrival.{Frame}
-use Rattle.machine.specs.Waiting.{Waiting, size, used, waitsAt, stay, leave, send, join}
+use Rattle.rules.specs.Outcomes.{Frame}
+use Rattle.machine.specs.Waiting.{Waiting, size, cellsInUse, waitsAt, stay, leave, send, join}
 use Rattle.standing.specs.Links.{times, Links, rowsOf, RowOk, Stands, linkIn, freed, linkOut}
 use Rattle.rules.proofs.Choice.{on, each-append, each-front, each-back, each-first, each-map, each-zip, eqb-self, among-without-same, among-without-other}
-use Rattle.machine.proofs.Waits.{used-append, other-queue}
+use Rattle.machine.proofs.Waits.{in-use-append, other-queue}
 
 -- ---- lists
 
@@ -123,9 +123,9 @@ module _ (n : ℕ) (l : Links) (ws : List Waiting) (S : Stands n l ws) (f : Fram
       rw (rows-append (changed i (i ∷ more) (l .row)) (S .ids) (i ∷ []), rows-other i (i ∷ more) (l .row) others, eqb-self i)
       (omega (arith, times-append c (rowsOf (l .row) (S .ids)) (i ∷ more ++ []), ap (times c) (append-nil (i ∷ more)), free-times c, S .cells c))
 
-  pub in-room : length (new .free) + used (join f (p₀ ∷ ps) ws) ≡ n
-  unfolding linkIn join stay used changed
-  in-room = omega (arith, used-append ws (w ∷ []), ap length cut, length-append (i ∷ more) rest, S .room, fit)
+  pub in-room : length (new .free) + cellsInUse (join f (p₀ ∷ ps) ws) ≡ n
+  unfolding linkIn join stay cellsInUse changed
+  in-room = omega (arith, in-use-append ws (w ∷ []), ap length cut, length-append (i ∷ more) rest, S .room, fit)
 
   unfoldable pub stands-in : Stands n new (join f (p₀ ∷ ps) ws)
   stands-in = record { ids = S .ids ++ (i ∷ []); holds = in-holds; rows = in-rows; rings = in-rings; cells = in-cells; room = in-room }
@@ -187,8 +187,8 @@ keep-cells c [] i row free later = omega (arith, times-append c (row i) free)
 keep-cells c (p ∷ ps) i row free later = omega (arith, times-append c (row i) (rowsOf row later))
 
 keep-room : (ps : List ℕ) (row free : List ℕ) (f : Frame) (ws : List Waiting) → length row ≡ size f
-    → length (freed ps row free) + used (stay f ps ws) ≡ length free + (size f + used ws)
-unfolding freed stay used changed
+    → length (freed ps row free) + cellsInUse (stay f ps ws) ≡ length free + (size f + cellsInUse ws)
+unfolding freed stay cellsInUse changed
 keep-room [] row free f ws h = omega (arith, length-append row free)
 keep-room (p ∷ ps) row free f ws h = omega arith
 
@@ -282,16 +282,16 @@ module _ (n : ℕ) (l : Links) (ws : List Waiting) (S : Stands n l ws) (p q i : 
       rw (rows-append (l .row) B (keepId left i L))
       (omega (arith, times-append c (rowsOf (l .row) B) (rowsOf (l .row) (keepId left i L)), keep-cells c left i (l .row) (l .free) L, cells₀ c))
 
-  out-room : length (out .free) + used (send p q ws) ≡ n
-  unfolding linkOut used changed
+  out-room : length (out .free) + cellsInUse (send p q ws) ≡ n
+  unfolding linkOut cellsInUse changed
   out-room =
       rw sent-is
       (omega (
         arith,
-        used-append (map (l .held) B) (stay (l .held i .frame) left (map (l .held) L)),
+        in-use-append (map (l .held) B) (stay (l .held i .frame) left (map (l .held) L)),
         keep-room left (l .row i) (l .free) (l .held i .frame) (map (l .held) L) (row-i .sized),
-        ap used ws-is,
-        used-append (map (l .held) B) (l .held i ∷ map (l .held) L),
+        ap cellsInUse ws-is,
+        in-use-append (map (l .held) B) (l .held i ∷ map (l .held) L),
         S .room,
       ))
 

@@ -7,10 +7,10 @@ use native.Mathlib.Omega.{arith}
 use lib.Dec.{eqb}
 use lib.Pow.{pow-pos}
 use borrow.Author.Tests.{eqb-true, eq-eqb, ne-eqb}
-use Rattle.rules.specs.Choice.{sift, among, without, Distinct}
-use Rattle.rules.specs.PortTests.{allPorts}
+use Rattle.rules.specs.Choice.{sift, among, without, Distinct, isNone}
+use Rattle.rules.specs.Numbers.{allPorts}
 use Rattle.rules.proofs.Choice.{on, onList, distinct-sift}
-use Rattle.machine.specs.FrameIn.{mask, isNone}
+use Rattle.machine.specs.FrameIn.{mask}
 use Rattle.standing.proofs.Reading.{without-absent}
 
 pub mask-without : (p : ℕ) (ps : List ℕ) → Distinct ps → among p ps ≡ true → mask ps ≡ 2 ^ p + mask (without p ps)

@@ -10,7 +10,7 @@ use Rattle.rules.specs.Cells.{shortest, longest}
 use Rattle.rules.specs.Tags.{Header, headerOf, isTagType, HeaderInRange}
 use Rattle.rules.specs.Operations.{Source, outermost, second, given, Kind, none, pop, push, swap, popAll, Operation}
 use Rattle.rules.specs.Arguments.{kindOf, typeOf, sourceOf, flag, operationOf}
-use Rattle.rules.specs.Arrival.{Frame}
+use Rattle.rules.specs.Outcomes.{Frame}
 use Rattle.rules.proofs.Choice.{on}
 use Rattle.cells.specs.Stored.{storedInRange, storedOperation}
 use Rattle.frame_in.specs.Stored.{kindNumber, typeNumber, sourceNumber, flagNumber, headerWord, operationByte, storedHeader}

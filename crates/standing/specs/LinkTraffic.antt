@@ -5,7 +5,7 @@ use mathlib.Core.Path.{_≡_}
 use mathlib.Core.List.{List}
 use lib.ListN.{length}
 use Rattle.rules.specs.Choice.{sift, among, Each}
-use Rattle.rules.specs.PortTests.{allPorts}
+use Rattle.rules.specs.Numbers.{allPorts}
 use Rattle.rules.specs.Cells.{cells, longest}
 use Rattle.machine.specs.Waiting.{Waiting, size}
 use Rattle.machine.specs.FrameIn.{mask}

@@ -7,8 +7,8 @@ use mathlib.Core.List.{List, [], _∷_, _++_, map}
 use lib.Dec.{eqb, ltb}
 use lib.ListN.{length}
 use Rattle.rules.specs.Choice.{if_then_else_, sift, among, without, Each, changed}
-use Rattle.rules.specs.Arrival.{Frame}
-use Rattle.machine.specs.Waiting.{Waiting, size, used, waitsAt}
+use Rattle.rules.specs.Outcomes.{Frame}
+use Rattle.machine.specs.Waiting.{Waiting, size, cellsInUse, waitsAt}
 
 -- how often a number stands in a list
 unfoldable pub times : ℕ → List ℕ → ℕ
@@ -40,7 +40,7 @@ pub record Stands (n : ℕ) (l : Links) (ws : List Waiting) : Type 0 where
   -- each cell is free or belongs to exactly one waiting frame
   pub cells : (c : ℕ) → times c (l .free) + times c (rowsOf (l .row) ids) ≡ (if ltb c n then 1 else 0)
   -- as many are free as the waiting frames leave
-  pub room : length (l .free) + used ws ≡ n
+  pub room : length (l .free) + cellsInUse ws ≡ n
 
 -- a frame comes in on the cells `i ∷ more`, which leave `rest` free
 unfoldable pub linkIn : Frame → List ℕ → List ℕ → ℕ → List ℕ → Links → Links

@@ -5,11 +5,12 @@ use mathlib.Core.Path.{_≡_}
 use mathlib.Core.Bool.{true}
 use mathlib.Core.List.{List}
 use lib.ListN.{length}
+use Rattle.rules.specs.Numbers.{lastVid}
 use Rattle.rules.specs.Choice.{Each}
 use Rattle.rules.specs.Cells.{shortest, longest}
 use Rattle.rules.specs.Cells as Rules
 use Rattle.rules.specs.Tags.{isTagType, tagsOf, HeaderInRange}
-use Rattle.rules.specs.Arrival.{Frame}
+use Rattle.rules.specs.Outcomes.{Frame}
 use Rattle.machine.specs.Waiting.{Waiting}
 use Rattle.layout.specs.Places.{cellBytes}
 use Rattle.cells.specs.Free.{sizeOf}
@@ -24,10 +25,10 @@ pub record Storable (f : Frame) : Type 0 where
   pub tags : f .origin .tags ≡ tagsOf (f .packet .bytes)
   pub default : HeaderInRange (f .origin .default)
   pub default-least : 1 ≤ f .origin .default .vid
-  pub default-most : f .origin .default .vid ≤ 4094
+  pub default-most : f .origin .default .vid ≤ lastVid
   pub type : isTagType (f .vlanOperation .type) ≡ true
   pub header : HeaderInRange (f .vlanOperation .header)
-  pub header-most : f .vlanOperation .header .vid ≤ 4094
+  pub header-most : f .vlanOperation .header .vid ≤ lastVid
 
 -- the chain that begins at c holds the frame
 pub record HoldsFrame (cells links : List ℕ) (c : ℕ) (w : Waiting) : Type 0 where

@@ -5,7 +5,7 @@ use mathlib.Core.Path.{_≡_}
 use mathlib.Core.List.{List, [], _∷_, _++_, map}
 use lib.ListN.{length}
 use Rattle.rules.specs.Choice.{Each}
-use Rattle.rules.specs.Arrival.{Frame}
+use Rattle.rules.specs.Outcomes.{Frame}
 use Rattle.machine.specs.Waiting.{Waiting, size, portAt, queueAt, send, drain, join}
 use Rattle.standing.specs.Links.{times, Links, rowsOf, Stands, linkIn, linkOut}
 

@@ -56,11 +56,11 @@ takenFrom cells n links port out (Frame queue c) = takenFrame cells n links port
 takenFrom cells n links port out Nobody = (doneWith 0 0, (links, out))
 takenFrom cells n links port out Damaged = (doneWith 0 0, (links, out))
 
--- the call's lines: 1, document 01's own, 10
+-- the call's lines: 1, the rules' own, 10
 unfoldable pub takeRefusals : List ℕ → List ℕ → ℕ → List ℕ → Next → List (Line Refusal)
 takeRefusals cells links port out next =
     lengthLine (linksFit links && cellsFit cells links)
-    ∷ takeLines port (length out)
+    ∷ takeLines (record { port = port; buffer = length out })
     ++ (damageLine (damagedIn cells (cellCount links) links port next) ∷ [])
 
 unfoldable pub takeBy : List ℕ → List ℕ → ℕ → List ℕ → Next → Answer × Memory

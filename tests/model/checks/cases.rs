@@ -1,4 +1,4 @@
-//! Document 01's cases P1 to P12 and its run cases.
+//! Cases P1 to P12 of the rules, and their run cases.
 
 use crate::scene::*;
 use model::addresses::bucket;

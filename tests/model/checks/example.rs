@@ -1,4 +1,4 @@
-//! Document 01's example, line by line.
+//! The worked example of docs/RULES.md, line by line.
 
 const LINES: &str = "\
 1 1 ok 0 30
@@ -11,7 +11,7 @@ const LINES: &str = "\
 8 3 ok 2 0
 ";
 
-/// The input as document 01 describes it, in bytes.
+/// The input as the rules describe it, in bytes.
 fn input() -> Vec<u8> {
     let a = [2, 0, 0, 0, 0, 1];
     let b = [2, 0, 0, 0, 0, 2];

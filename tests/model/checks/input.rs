@@ -74,7 +74,7 @@ fn a_record_of_length_5000_is_good_and_one_of_5001_is_skipped() {
 
 /// A record's fields in their order, little-endian VIDs among them.
 #[test]
-fn fields_stand_where_document_01_says() {
+fn fields_stand_where_the_rules_say() {
     let mut bench = model::bench::Bench::fresh();
     let input = [
         &[18, 0, 5, 0, 2, 4, 2, 0x34, 0x02, 6, 1, 5, 3, 1, 2, 1, 0x67, 0x05, 7, 1][..],

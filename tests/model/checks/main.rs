@@ -1,4 +1,4 @@
-//! The model's own tests: document 01's cases and example, outside vectors, readings, laws over streams.
+//! The model's own tests: the rules' cases and example, outside vectors, points that can be read in two ways, laws over streams.
 
 mod scene;
 
@@ -9,7 +9,7 @@ mod example;
 mod input;
 mod laws;
 mod leaving;
+mod outside_vectors;
 mod queues;
 mod refusals;
 mod slips;
-mod source_document;

@@ -1,4 +1,4 @@
-//! The five slips that document 01 sees in class.
+//! The five slips of the rules, which are seen in class.
 
 use crate::scene::*;
 use model::operation::Operation;

@@ -1,4 +1,4 @@
-//! The model: every call of document 01 over plain data. A test tool, written from the document and from nothing else.
+//! The model: every call of the exact rules (docs/RULES.md) over plain data. A test tool, written from the rules and from nothing else.
 //!
 //! Modules name one another by `super`, so that copies of the model, each with a fault, can stand side by side in one
 //! crate.

@@ -2,7 +2,7 @@
 
 use super::frame::{self, Header, Tag, SHORTEST, TAG_TYPES};
 
-/// A tag operation as a call gives it; each field is a number in document 01's order.
+/// A tag operation as a call gives it; each field is a number in the rules' order.
 #[derive(Clone, Copy, Debug, PartialEq, Eq)]
 pub struct Operation {
     /// 0 none, 1 pop, 2 push, 3 swap, 4 pop-all.

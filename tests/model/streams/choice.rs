@@ -3,7 +3,7 @@
 use crate::random::Random;
 use crate::stream::{address_bytes, Operation, Port, FORWARDING};
 
-/// The lengths at which a rule of document 01 changes its answer, and the longest that a record holds.
+/// The lengths at which a rule changes its answer, and the longest that a record holds.
 pub const LENGTHS: [usize; 12] = [59, 60, 61, 72, 73, 152, 153, 1_592, 1_600, 4_083, 4_084, 4_997];
 
 /// VIDs that the VLAN table gets in the streams, its two ends among them.

@@ -1,4 +1,4 @@
-//! Document 01's example.
+//! The worked example of docs/RULES.md.
 
 use crate::choice::Frame;
 use crate::random::Random;

@@ -1,4 +1,4 @@
-"""The calls that a lesson makes, each with its record kind and body as in document 01's section "Bench program"."""
+"""The calls that a lesson makes, each with its record kind and body as in docs/BENCH.md."""
 
 from dataclasses import dataclass
 

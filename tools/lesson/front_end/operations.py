@@ -11,7 +11,7 @@ GIVEN = len(SOURCES)
 
 @dataclass(frozen=True)
 class Operation:
-    """Document 01's numbers: kind, type and sources; then the fields that the operation gives."""
+    """The rules' numbers: kind, type and sources; then the fields that the operation gives."""
 
     kind: int = 0
     type: int = 0

@@ -1,4 +1,4 @@
-"""Document 01's numbers and their words: reasons, refusals, counters, states, assignments, tag operations."""
+"""The numbers of docs/RULES.md and their words: reasons, refusals, counters, states, assignments, tag operations."""
 
 REASONS = {
     1: "shorter than 60",
@@ -50,7 +50,7 @@ TAG_TYPES = ("8100", "88A8")
 
 
 def named(table, number):
-    """The words of a number, or the number itself where document 01 has none."""
+    """The words of a number, or the number itself where the rules have none."""
     words = dict(enumerate(table)) if isinstance(table, tuple) else table
     return words.get(number, str(number))
 

@@ -1,0 +1,153 @@
+-- A plan carried out does what the rules and the machine say: dropped, or queued. Assumes nothing.
+use Prim.Native.Nat.{ℕ}
+use mathlib.Core.Path.{_≡_, refl, sym, ap, ap₂, _∙_}
+use mathlib.Core.Bool.{Bool, false}
+use mathlib.Core.List.{List}
+use lib.Dec.{eqb}
+use lib.ListN.{length}
+use Rattle.rules.specs.Cells.{cells}
+use Rattle.rules.specs.Reasons.{Reason, short, long, groupSource, tagCount, portBlocking, portListening, vid4095, noVlan, noMember, portLearning, noCandidate, noPortLeft, noRoom, reasonNumber}
+use Rattle.rules.specs.Counters.{counterNumber}
+use Rattle.rules.specs.PortTests.{portsLeft}
+use Rattle.rules.specs.Facts.{Facts}
+use Rattle.rules.specs.Outcomes.{Outcome, drops, queues, frameOf, outcomeOf, isNotLearned}
+use Rattle.machine.specs.Waiting.{size}
+use Rattle.machine.specs.FrameIn.{mask, candidateEvents, outcomeEvents, frameInEvents}
+use Rattle.lent.specs.declared.Answer.{Answer}
+use Rattle.lent.specs.Lengths.{cellCount}
+use Rattle.lent.specs.Answers.{doneWith}
+use Rattle.addresses.specs.Numbers.{tableOf}
+use Rattle.cells.specs.Free.{firstFree, taken}
+use Rattle.frame_rules.specs.declared.plan.Plan.{Plan}
+use Rattle.frame_rules.specs.Stored.{storedHeader}
+use Rattle.frame_rules.specs.Candidates.{numbersOf}
+use Rattle.frame_rules.specs.Room.{leftMask}
+use Rattle.frame_in.specs.Carried.{countedTests, countedQueued, countIf, countedOutcome, countedBy, joinedAt, joinedBy, storedAt, storedBy, lessonBy, carriedOut}
+use Rattle.words.specs.Counters.{bumped}
+use Rattle.frame_in.specs.Counting.{counted}
+use Rattle.frame_in.specs.Call.{Memories, factsIn, storedFor, joinedFor, learnedIn, answerFor, entered}
+use Rattle.frame_in.proofs.Facts.{facts-bytes, facts-port}
+use Rattle.frame_in.proofs.Counts.{queued-counted, pushed-tests, left-is, events-counted}
+
+parts : {a a′ : Answer} {b b′ c c′ d d′ : List ℕ} → a ≡ a′ → b ≡ b′ → c ≡ c′ → d ≡ d′ → _≡_ {A = Answer × Memories} (a, (b, c, d)) (a′, (b′, c′, d′))
+parts p q r s = cc
+
+pub not-zero : (r : Reason) → eqb (reasonNumber r) 0 ≡ false
+unfolding reasonNumber
+not-zero short = refl
+not-zero long = refl
+not-zero groupSource = refl
+not-zero tagCount = refl
+not-zero portBlocking = refl
+not-zero portListening = refl
+not-zero vid4095 = refl
+not-zero noVlan = refl
+not-zero noMember = refl
+not-zero portLearning = refl
+not-zero noCandidate = refl
+not-zero noPortLeft = refl
+not-zero noRoom = refl
+
+module _ (links addresses frame : List ℕ) (n port : ℕ) (plan : Plan)
+    (tests-are : (l : List ℕ) → counted (candidateEvents (factsIn links addresses port frame)) l ≡ countedTests (plan .tests) l)
+    (lesson-is : lessonBy (plan .lesson) port addresses ≡ (isNotLearned (factsIn links addresses port frame) (tableOf addresses), learnedIn links addresses port frame)) where
+  abbrev f : Facts
+  f = factsIn links addresses port frame
+
+  abbrev unlearned : Bool
+  unlearned = lessonBy (plan .lesson) port addresses .0
+
+  abbrev events : List ℕ → List ℕ
+  events l = counted (frameInEvents f (isNotLearned f (tableOf addresses))) l
+
+  abbrev so-far : List ℕ → List ℕ
+  so-far l = countedTests (plan .tests) (countIf unlearned port (bumped port 0 l))
+
+  before-outcome : (o : Outcome) → outcomeOf f ≡ o → (l : List ℕ) → events l ≡ counted (outcomeEvents port o) (so-far l)
+  before-outcome o e l =
+      events-counted f (isNotLearned f (tableOf addresses)) l
+      ∙ ap₂ (λ (p : ℕ) (x : Outcome). counted (outcomeEvents p x) (counted (candidateEvents f) (countIf (isNotLearned f (tableOf addresses)) p (bumped p 0 l))))
+      (facts-port links addresses frame port) e
+      ∙ ap (counted (outcomeEvents port o))
+      (tests-are (countIf (isNotLearned f (tableOf addresses)) port (bumped port 0 l))
+      ∙ ap (λ (b : Bool). countedTests (plan .tests) (countIf b port (bumped port 0 l))) (sym (ap (λ (p : Bool × List ℕ). p .0) lesson-is)))
+
+  learned-is : lessonBy (plan .lesson) port addresses .1 ≡ learnedIn links addresses port frame
+  learned-is = ap (λ (p : Bool × List ℕ). p .1) lesson-is
+
+  -- ---- dropped
+
+  module _ (r : Reason) (outcome : outcomeOf f ≡ drops r) (reason-is : plan .reason ≡ reasonNumber r) (none-left : plan .left ≡ 0) where
+    dropped : eqb (plan .reason) 0 ≡ false
+    dropped = ap (λ (k : ℕ). eqb k 0) reason-is ∙ not-zero r
+
+    drop-answer : doneWith (plan .reason) (plan .left) ≡ answerFor (outcomeOf f)
+    unfolding answerFor
+    drop-answer = rw (outcome, reason-is, none-left)
+
+    drop-stored : (memory : List ℕ) → storedBy plan memory links frame ≡ storedFor (outcomeOf f) links memory
+    unfolding storedBy storedFor
+    drop-stored memory = rw (outcome, dropped)
+
+    drop-counts : (l : List ℕ) → countedOutcome port (plan .reason) (plan .tests) (so-far l) ≡ counted (outcomeEvents port (drops r)) (so-far l)
+    unfolding countedOutcome outcomeEvents counted counterNumber
+    drop-counts l = rw dropped (ap (λ (k : ℕ). bumped port k (so-far l)) reason-is)
+
+    drop-links : countedBy port unlearned plan (joinedBy n plan frame links) ≡ events (joinedFor (cellCount links) (outcomeOf f) links)
+    unfolding countedBy joinedBy joinedFor
+    drop-links = rw (outcome, dropped) (drop-counts links ∙ sym (before-outcome (drops r) outcome links))
+
+    pub dropped-carried : (memory : List ℕ) → carriedOut n plan port frame memory links addresses ≡ entered port frame memory links addresses
+    unfolding carriedOut entered
+    dropped-carried memory = parts drop-answer (drop-stored memory) drop-links learned-is
+
+  -- ---- queued
+
+  module _ (outcome : outcomeOf f ≡ queues (frameOf f) (portsLeft (f .test))) (reason-is : plan .reason ≡ 0) (numbers-are : plan .tests ≡ numbersOf (f .test))
+      (left-are : plan .left ≡ leftMask (plan .tests)) (queue-is : plan .queue ≡ f .queue) (header-is : plan .header ≡ storedHeader (frameOf f))
+      (count-is : n ≡ cellCount links) where
+    taken-left : plan .left ≡ mask (portsLeft (f .test))
+    taken-left = left-are ∙ ap leftMask numbers-are ∙ sym (left-is (f .test))
+
+    bytes-are : frameOf f .packet .bytes ≡ frame
+    unfolding frameOf
+    bytes-are = facts-bytes links addresses frame port
+
+    size-is : size (frameOf f) ≡ cells (length frame)
+    unfolding size
+    size-is = ap (λ (b : List ℕ). cells (length b)) bytes-are
+
+    queue-at : plan .queue ≡ frameOf f .queue
+    unfolding frameOf
+    queue-at = queue-is
+
+    queue-answer : doneWith (plan .reason) (plan .left) ≡ answerFor (outcomeOf f)
+    unfolding answerFor
+    queue-answer = rw (outcome, reason-is, taken-left)
+
+    queue-stored : (memory : List ℕ) → storedBy plan memory links frame ≡ storedFor (outcomeOf f) links memory
+    unfolding storedBy storedAt storedFor
+    queue-stored memory = rw (outcome, reason-is, size-is, header-is, bytes-are)
+
+    queue-joined : joinedBy n plan frame links ≡ joinedFor (cellCount links) (outcomeOf f) links
+    unfolding joinedBy joinedAt joinedFor
+    queue-joined =
+        rw (outcome, reason-is, size-is, numbers-are, taken-left, queue-at, count-is)
+        (sym (pushed-tests (f .test) (cellCount links) (frameOf f .queue) (firstFree links) (taken (cells (length frame)) (mask (portsLeft (f .test))) links)))
+
+    queue-counts : (l : List ℕ) → countedOutcome port (plan .reason) (plan .tests) (so-far l) ≡ counted (outcomeEvents port (queues (frameOf f) (portsLeft (f .test)))) (so-far l)
+    unfolding countedOutcome outcomeEvents counted counterNumber
+    queue-counts l =
+        rw reason-is
+        (ap (λ (t : _). countedQueued t (bumped port 14 (so-far l))) numbers-are ∙ sym (queued-counted (f .test) (frameOf f) (bumped port 14 (so-far l))))
+
+    queue-links : countedBy port unlearned plan (joinedBy n plan frame links) ≡ events (joinedFor (cellCount links) (outcomeOf f) links)
+    unfolding countedBy
+    queue-links =
+        queue-counts (joinedBy n plan frame links)
+        ∙ sym (before-outcome (queues (frameOf f) (portsLeft (f .test))) outcome (joinedBy n plan frame links))
+        ∙ ap events queue-joined
+
+    pub queued-carried : (memory : List ℕ) → carriedOut n plan port frame memory links addresses ≡ entered port frame memory links addresses
+    unfolding carriedOut entered
+    queued-carried memory = parts queue-answer (queue-stored memory) queue-links learned-is
