@@ -1,12 +1,15 @@
 -- What a frame-in answers, queues and learns. Assumes nothing.
-use Prim.Native.Nat.{ℕ, _≤_}
+use Prim.Native.Nat.{ℕ, _+_, _≤_}
 use mathlib.Core.Path.{_≡_, refl, sym, ap, _∙_, subst}
 use mathlib.Core.Bool.{Bool, true, false, false≢true, true≢false}
 use mathlib.Core.List.{List, [], _∷_, _++_}
 use mathlib.Core.Option.{Option, none, some}
+use native.Mathlib.Omega.{arith}
 use lib.Dec.{eqb}
+use lib.ListN.{length}
 use borrow.Author.Tests.{eq-eqb}
 use Rattle.rules.specs.Choice.{sift, isNone, among}
+use Rattle.rules.specs.Cells.{cells}
 use Rattle.rules.specs.Reasons.{Reason, reasonNumber}
 use Rattle.rules.specs.PortTests.{portsLeft}
 use Rattle.rules.specs.Facts.{factsOf}
@@ -18,14 +21,15 @@ use Rattle.rules.proofs.Lines.{holds-none}
 use Rattle.rules.proofs.Parts.{learns-exactly, bpdu-learns-nothing}
 use Rattle.rules.proofs.PortTests.{ports-exactly}
 use Rattle.rules.proofs.Arrival.{stored-as}
-use Rattle.machine.specs.Waiting.{stay, join}
+use Rattle.machine.specs.Waiting.{Waiting, cellsInUse, stay, join}
 use Rattle.rules.specs.Requests.{FrameInRequest}
 use Rattle.machine.specs.State.{State, frameIn, Step, done}
 use Rattle.machine.specs.FrameIn.{factsAt, mask, outcomeAnswer, outcomeWaiting, enters, frameInStep}
 use Rattle.machine.specs.Machine.{carryOut, perform}
 use Rattle.machine.specs.CallTheorems.{Allowed, factsNow, PassingNow, Joined, FrameInTheorems}
 use Rattle.machine.proofs.Steps.{allowed-is}
-use Rattle.machine.proofs.Room.{none-last}
+use Rattle.machine.proofs.Waits.{in-use-append}
+use Rattle.machine.proofs.Room.{none-last, stored-size}
 use Rattle.machine.proofs.Addresses.{learned-is, not-learned-is}
 
 module _ (s : State) (c : FrameInRequest) where
@@ -90,6 +94,19 @@ module _ (s : State) (c : FrameInRequest) where
           waits = rw (eq-eqb r r refl);
         }
 
+    queued-takes : reasonFor (factsNow s c) ≡ none
+        → cellsInUse (perform s (frameIn c) .core .waiting) ≡ cellsInUse (s .core .waiting) + cells (length (c .packet .bytes))
+    unfolding isNone join stay cellsInUse
+    queued-takes e = takes (portsLeft (factsNow s c .test)) (port-left e) (queued-waiting e)
+      where
+        takes : (ports : List ℕ) → isNone ports ≡ false
+            → perform s (frameIn c) .core .waiting ≡ join (frameOf (factsNow s c)) ports (s .core .waiting)
+            → cellsInUse (perform s (frameIn c) .core .waiting) ≡ cellsInUse (s .core .waiting) + cells (length (c .packet .bytes))
+        takes [] h w = absurd (true≢false h)
+        takes (r ∷ rs) h w =
+            let one : List Waiting = record { frame = frameOf (factsNow s c); ports = r ∷ rs } ∷ [] in
+            ap cellsInUse w ∙ omega (arith, in-use-append (s .core .waiting) one, stored-size s c)
+
     -- ---- learning
 
     learned : factsNow s c .bpdu ≡ false → PastEntering (factsNow s c) → learns (factsNow s c) ≡ true
@@ -110,6 +127,7 @@ module _ (s : State) (c : FrameInRequest) where
           drop-queues-nothing = drop-queues-nothing;
           queued-answers = λ e. (portsLeft (factsNow s c .test), queued-answer e, passing);
           queued-joins = λ e. joins-at (portsLeft (factsNow s c .test)) refl (port-left e) e;
+          queued-takes = queued-takes;
           learned = λ b h. table-is ∙ learned-is (s .core .settings) (s .core .table) _ (c .port) (c .packet) (learned b h);
           not-learned = λ n. stays (no-lesson n);
           bpdu-not-learned = λ b. stays (bpdu-learns-nothing (factsNow s c) b);

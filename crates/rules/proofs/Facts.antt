@@ -93,6 +93,8 @@ module _ (s : Settings) (t : Table) (free p : ℕ) (k : Packet) where
   unfolding factsOf queuePcp headerAt
   queue-theorems =
       record {
+        pcp-of-outermost = λ x rest e. rw e;
+        pcp-of-default = λ e. rw e;
         by-outermost = λ b x rest e. rw (b, e);
         by-default = λ b e. rw (b, e);
         bpdu-queue = λ b. rw b;

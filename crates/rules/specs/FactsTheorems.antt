@@ -39,6 +39,8 @@ module _ (s : Settings) (t : Table) (free p : ℕ) (k : Packet) where
 
   -- "PCP of the outermost tag, else the port's default PCP, through one map of 8"; a BPDU to port 4 has queue 3
   pub record QueueTheorems : Type 0 where
+    pub pcp-of-outermost : (a : Tag) (rest : List Tag) → tagsOf (k .bytes) ≡ a ∷ rest → facts .pcp ≡ a .header .pcp
+    pub pcp-of-default : tagsOf (k .bytes) ≡ [] → facts .pcp ≡ s .port p .default .pcp
     pub by-outermost : facts .bpdu ≡ false → (a : Tag) (rest : List Tag) → tagsOf (k .bytes) ≡ a ∷ rest → facts .queue ≡ s .queueOf (a .header .pcp)
     pub by-default : facts .bpdu ≡ false → tagsOf (k .bytes) ≡ [] → facts .queue ≡ s .queueOf (s .port p .default .pcp)
     pub bpdu-queue : facts .bpdu ≡ true → facts .queue ≡ 3
