@@ -1,4 +1,8 @@
 // The layout paper, "Link memory": where each field stands, as constants. A record's or a table's place i is its first word and i of its strides.
+ghost use mathlib.Core.Path.{_≡_};
+ghost use Prim.Native.Nat.{_≤_, _<_};
+ghost use Rattle.layout.specs.Cells.{clamped};
+
 pub const CELL_COUNT: usize = 0;
 
 pub const BPDU: usize = 1;
@@ -47,3 +51,12 @@ pub const CELL_SIZE: usize = 80;
 pub const STORED_HEADER: usize = 8;
 
 pub const FIRST_PART: usize = CELL_SIZE - STORED_HEADER;
+
+// A cell number from n on stands for 0: a word that names the cell after another is read so, whatever it holds.
+pub fn below(cell: u32, n: usize) -> usize
+    requires { ⌜ 1 ≤ n ⌝ }
+    ensures { λ r. ⌜ (r ≡ clamped n cell) × (r < n) ⌝ }
+{
+    let i = cell as usize;
+    if i < n { i } else { 0 }
+}
