@@ -1,6 +1,6 @@
 -- What the facts of a frame are, one by one. Assumes nothing.
 use Prim.Native.Nat.{ℕ, zero, suc, _<_}
-use mathlib.Core.Path.{_≡_, refl, sym, ap, _∙_}
+use mathlib.Core.Path.{_≡_, refl, sym, ap, subst, _∙_}
 use mathlib.Core.Logic.{_↔_}
 use mathlib.Core.Bool.{Bool, true, false, _&&_, not, false≢true, true≢false}
 use mathlib.Core.List.{List, [], _∷_, List·Memᴰ, List·Memᴰ·head, List·Memᴰ·tail}
@@ -93,8 +93,8 @@ module _ (s : Settings) (t : Table) (free p : ℕ) (k : Packet) where
   unfolding factsOf queuePcp headerAt
   queue-theorems =
       record {
-        pcp-of-outermost = λ x rest e. rw e;
-        pcp-of-default = λ e. rw e;
+        pcp-of-outermost = λ x rest e. subst (λ ts. headerAt (s .port p .default) ts 0 .pcp ≡ x .header .pcp) (sym e) refl;
+        pcp-of-default = λ e. subst (λ ts. headerAt (s .port p .default) ts 0 .pcp ≡ s .port p .default .pcp) (sym e) refl;
         by-outermost = λ b x rest e. rw (b, e);
         by-default = λ b e. rw (b, e);
         bpdu-queue = λ b. rw b;
