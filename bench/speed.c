@@ -1,16 +1,18 @@
-/* speed MODE LENGTH PORTS ADDRESSES CELLS TURNS: one turn is a frame in and its takes. MODE: `switch`, the library; `cells`, plain C that
- * copies a frame into 80-byte cells and out again for each port, without switching; `copy`, a memcpy in and out; `none`, the loop alone.
+/* speed MODE LENGTH PORTS ADDRESSES CELLS TURNS [KIND]: one turn is a frame in and its takes. MODE: `switch`, the library; `cells`, plain C
+ * that copies a frame into 80-byte cells and out again for each port, without switching; `copy`, a memcpy in and out; `none`, the loop alone.
  * PORTS is 1 (a known address) or 2 to 4 (a broadcast in a VLAN of port 0 and that many others). CELLS is the switch's cell count.
- * bench/run counts the instructions of two lengths of run and divides the difference. */
+ * KIND: `plain`, an untagged frame that leaves as it came; `tagged`, one tag of VID 1; `twice`, two tags; `push`, `pop`, `swap`: an untagged or
+ * tagged frame that leaves by ports with that operation; `group`, a group address that is no broadcast; `dropped`, a tag of a VID without a
+ * VLAN. bench/run counts the instructions of two lengths of run and divides the difference. */
 #include <gufhrandi.h>
 #include <stdio.h>
 #include <stdlib.h>
 #include <string.h>
 
-enum { CELLS = 2048, LINK_WORDS = 640 + 24 * CELLS };
+enum { CELLS = 2048, MOST_LINK_WORDS = 1024 + 20 * CELLS };
 
 static uint8_t cells[GUFHRANDI_CELL * CELLS];
-static uint32_t links[LINK_WORDS];
+static uint32_t links[MOST_LINK_WORDS];
 static size_t cell_bytes, link_words;
 static uint64_t addresses[GUFHRANDI_PLACES];
 static uint8_t frame[4096], out[4096];
@@ -103,11 +105,20 @@ static void address(uint8_t *at, unsigned long number)
     at[5] = (uint8_t)(number % 256);
 }
 
+static void tag(uint8_t *at, uint32_t vid)
+{
+    at[0] = 0x81, at[1] = 0x00;
+    at[2] = (uint8_t)(vid / 256), at[3] = (uint8_t)(vid % 256);
+}
+
+/* The operation of a kind's departing ports: kinds 1 pop, 2 push, 3 swap. */
+static uint32_t operation_of(const char *kind) { return !strcmp(kind, "pop") ? 1 : !strcmp(kind, "push") ? 2 : !strcmp(kind, "swap") ? 3 : 0; }
+
 int main(int count, char **words)
 {
-    if (count != 7)
+    if (count != 7 && count != 8)
         return 2;
-    const char *mode = words[1];
+    const char *mode = words[1], *kind = count == 8 ? words[7] : "plain";
     size_t length = strtoul(words[2], NULL, 10);
     uint32_t ports = (uint32_t)strtoul(words[3], NULL, 10);
     unsigned long known = strtoul(words[4], NULL, 10), turns = strtoul(words[6], NULL, 10);
@@ -133,10 +144,23 @@ int main(int count, char **words)
         if (1 < ports && gufhrandi_vlan(links, link_words, 1, (2u << ports) - 1, 0, 0, 0, 2, 2, 0, 0, 0).refusal != 0)
             return 1;
     }
+    for (uint32_t port = 1; turn == by_switch && operation_of(kind) != 0 && port < 5; port++)
+        if (gufhrandi_port(links, link_words, port, 0, 1, 1, 0, 0, 0, operation_of(kind), 0, 2, 2, 20, 0, 0).refusal != 0)
+            return 1;
     address(frame + 6, 0xFFFE);
+    if (!strcmp(kind, "tagged") || !strcmp(kind, "twice") || !strcmp(kind, "pop") || !strcmp(kind, "swap"))
+        tag(frame + 12, 1);
+    if (!strcmp(kind, "twice"))
+        tag(frame + 16, 2);
+    if (!strcmp(kind, "dropped"))
+        tag(frame + 12, 77);
+    uint8_t several[6];
+    memset(several, 0xFF, 6);
+    if (!strcmp(kind, "group"))
+        address(several, 1), several[0] = 1;
     for (unsigned long i = 0; i < turns; i++) {
         if (1 < ports)
-            memset(frame, 0xFF, 6);
+            memcpy(frame, several, 6);
         else
             address(frame, i % known);
         turn(length, ports);

@@ -7,7 +7,7 @@
 #include <string.h>
 
 #define CELLS 200
-#define LINK_WORDS (640 + 24 * CELLS)
+#define LINK_WORDS (1024 + 20 * CELLS)
 
 static uint8_t cells[GUFHRANDI_CELL * CELLS];
 static uint32_t links[LINK_WORDS];

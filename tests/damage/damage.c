@@ -259,7 +259,7 @@ static void check_link_words(void)
 {
     bool right = true;
     for (uint64_t count = 0; count < 5000; count++)
-        right &= gufhrandi_link_words((uint32_t)count) == (count < 64 || count > 2048 ? 0 : 640 + 24 * count);
+        right &= gufhrandi_link_words((uint32_t)count) == (count < 64 || count > 2048 ? 0 : 1024 + 20 * count);
     for (int i = 0; i < 10000; i++) {
         uint32_t count = (uint32_t)random_number() | 4096u;
         right &= gufhrandi_link_words(count) == 0;

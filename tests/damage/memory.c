@@ -14,7 +14,7 @@ enum { PAGE = 65536, MOST_CELLS = 2049 };
 
 struct memory memories[MEMORIES] = {
     [CELLS] = {.name = "cell memory", .element = 1, .most = 80 * MOST_CELLS},
-    [LINKS] = {.name = "link memory", .element = 4, .most = 640 + 24 * MOST_CELLS},
+    [LINKS] = {.name = "link memory", .element = 4, .most = 1024 + 20 * MOST_CELLS},
     [ADDRESSES] = {.name = "address memory", .element = 8, .most = 4113},
     [FRAME] = {.name = "the frame", .element = 1, .most = 70000},
     [BUFFER] = {.name = "the take-out buffer", .element = 1, .most = 6000},

@@ -17,15 +17,15 @@ const struct call_facts call_facts[CALLS] = {
     [TAKE] = {"take", {TO_READ, TO_WRITE, 0, 0, TO_WRITE}, REFUSALS_4(1, 2, 5, 10)},
     [AGE] = {"age", {0, 0, TO_WRITE, 0, 0}, REFUSALS_2(1, 10)},
     [COUNTER] = {"counter", {0, TO_READ, 0, 0, 0}, REFUSALS_3(1, 2, 3)},
-    [PORT] = {"port", {0, TO_WRITE, 0, 0, 0}, REFUSALS_3(1, 2, 3)},
+    [PORT] = {"port", {0, TO_WRITE, 0, 0, 0}, REFUSALS_4(1, 2, 3, 10)},
     [VLAN] = {"VLAN", {0, TO_WRITE, 0, 0, 0}, REFUSALS_4(1, 3, 6, 10)},
     [CLEAR_VLAN] = {"clear VLAN", {0, TO_WRITE, 0, 0, 0}, REFUSALS_4(1, 3, 7, 10)},
     [SET_STATIC] = {"static", {0, 0, TO_WRITE, 0, 0}, REFUSALS_4(1, 2, 3, 4) | REFUSALS_2(8, 10)},
     [REMOVE] = {"remove", {0, 0, TO_WRITE, 0, 0}, REFUSALS_4(1, 3, 9, 10)},
-    [MAP] = {"map", {0, TO_WRITE, 0, 0, 0}, REFUSALS_2(1, 3)},
-    [QUEUE_SWITCH] = {"queue switch", {0, TO_WRITE, 0, 0, 0}, REFUSALS_3(1, 2, 3)},
+    [MAP] = {"map", {0, TO_WRITE, 0, 0, 0}, REFUSALS_3(1, 3, 10)},
+    [QUEUE_SWITCH] = {"queue switch", {0, TO_WRITE, 0, 0, 0}, REFUSALS_4(1, 2, 3, 10)},
     [DRAIN] = {"drain", {0, TO_WRITE, 0, 0, 0}, REFUSALS_3(1, 2, 10)},
-    [BPDU] = {"BPDU", {0, TO_WRITE, 0, 0, 0}, REFUSALS_2(1, 3)},
+    [BPDU] = {"BPDU", {0, TO_WRITE, 0, 0, 0}, REFUSALS_3(1, 3, 10)},
 };
 
 /* Mostly low to high, else just outside or far outside. */
@@ -125,7 +125,7 @@ struct request random_request(enum call call)
         static const uint32_t counts[] = {63, 64, 64, 65, 66, 80, 100, 127, 128, 199, 200, 2049};
         uint32_t cells = one_in(40) ? 2048 : counts[below(sizeof counts / sizeof *counts)];
         r.length[CELLS] = 80 * cells;
-        r.length[LINKS] = 640 + 24 * cells;
+        r.length[LINKS] = 1024 + 20 * cells;
         r.length[ADDRESSES] = GUFHRANDI_PLACES;
     }
     if (call == FRAME_IN) {

@@ -7,7 +7,7 @@
 #include <stdlib.h>
 #include <string.h>
 
-enum { CELLS = 200, LINK_WORDS = 640 + 24 * CELLS, GUARD = 64, OUT = 5000, LONGEST = 5000 };
+enum { CELLS = 200, LINK_WORDS = 1024 + 20 * CELLS, GUARD = 64, OUT = 5000, LONGEST = 5000 };
 
 static struct { uint8_t before[GUARD], bytes[GUFHRANDI_CELL * CELLS], behind[GUARD]; } cells;
 static struct { uint8_t before[GUARD]; uint32_t words[LINK_WORDS]; uint8_t behind[GUARD]; } links;

@@ -1,4 +1,5 @@
--- The calls on address memory: what each answers and leaves, whatever the memory holds. Assumes nothing: these are definitions.
+-- The calls on address memory: what each answers and leaves, whatever the memory holds. Assumes nothing: these are
+-- definitions.
 use Prim.Native.Nat.{ℕ}
 use mathlib.Core.Bool.{Bool, _||_, not}
 use mathlib.Core.List.{List, [], _∷_, _++_}
@@ -19,7 +20,8 @@ unfoldable pub ageRefusals : List ℕ → Lines
 ageRefusals addresses = lengthLine (addressesFit addresses) ∷ ageLines ++ (damageLine (not (allInRange addresses)) ∷ [])
 
 unfoldable pub ageCall : List ℕ → Answer × List ℕ
-ageCall addresses = orRefused (first (ageRefusals addresses)) addresses (doneWith (agedBy addresses .0) 0, agedBy addresses .1)
+ageCall addresses =
+    orRefused (first (ageRefusals addresses)) addresses (doneWith (agedBy addresses .0) 0, agedBy addresses .1)
 
 -- ---- static and remove: they meet the places of the address's search
 

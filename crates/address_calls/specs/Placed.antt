@@ -12,10 +12,12 @@ use Rattle.address_calls.specs.Calls.{there}
 
 unfoldable pub staticPlaced : List ℕ → ℕ → ℕ → Answer × List ℕ
 staticPlaced addresses k port =
-    orRefused (first (line placesInUse (full (lookUp addresses k)) ∷ damageLine (damaged (lookUp addresses k)) ∷ [])) addresses
+    orRefused (first (line placesInUse (full (lookUp addresses k)) ∷ damageLine (damaged (lookUp addresses k)) ∷ []))
+    addresses
     (doneWith 0 0, staticBy (lookUp addresses k) k port addresses)
 
 unfoldable pub removePlaced : List ℕ → ℕ → Answer × List ℕ
 removePlaced addresses k =
-    orRefused (first (line addressNotThere (not (there (lookUp addresses k))) ∷ damageLine (damaged (lookUp addresses k)) ∷ [])) addresses
+    orRefused (first (line addressNotThere (not (there (lookUp addresses k))) ∷ damageLine
+    (damaged (lookUp addresses k)) ∷ [])) addresses
     (doneWith 0 0, removedBy (lookUp addresses k) addresses)

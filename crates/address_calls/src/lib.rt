@@ -2,7 +2,7 @@
 use addresses::LookUp;
 use addresses::all_in_range;
 use addresses::key_of;
-use addresses::look_up;
+use addresses::whole_search;
 use lent::Answer;
 use lent::addresses_fit;
 use lent::done;
@@ -76,7 +76,7 @@ fn place_static(addresses: &mut [u64], key: u64, port: u32) -> Answer
     requires { ⌜ (length (now addresses) ≡ 4112) × (key < 2 ^ 52) × (port ≤ 4) ⌝ }
     ensures { λ r. ⌜ (r, now (addresses .exit)) ≡ staticPlaced (now (addresses .entry)) key port ⌝ }
 {
-    let found = look_up(addresses, key);
+    let found = whole_search(addresses, key);
     if is_full(found) {
         return refused(8);
     }
@@ -110,7 +110,7 @@ fn remove_placed(addresses: &mut [u64], key: u64) -> Answer
     requires { ⌜ (length (now addresses) ≡ 4112) × (key < 2 ^ 52) ⌝ }
     ensures { λ r. ⌜ (r, now (addresses .exit)) ≡ removePlaced (now (addresses .entry)) key ⌝ }
 {
-    let found = look_up(addresses, key);
+    let found = whole_search(addresses, key);
     if is_missing(found) {
         return refused(9);
     }

@@ -1,43 +1,52 @@
--- The layout paper, "Address memory": how a number of the memory reads as an entry, and how an entry is written. Assumes nothing: these are definitions.
-use Prim.Native.Nat.{ℕ, _+_, _*_, _/_, _%_, _^_}
+-- The layout paper, "Address memory": how a number of the memory reads as an entry, and how an entry is written.
+-- Assumes nothing: these are definitions.
+use Prim.Native.Nat.{ℕ, _+_, _*_, _/_, _%_}
 use mathlib.Core.Bool.{Bool, true, false, _||_, _&&_}
 use mathlib.Core.List.{List, [], _∷_}
 use mathlib.Core.Option.{Option, none, some}
-use lib.Dec.{eqb, leb}
+use lib.Dec.{eqb, ltb}
 use lib.ListN.{getD}
 use Rattle.rules.specs.Choice.{if_then_else_}
 use Rattle.rules.specs.Addresses.{Entry, Table}
 
--- ---- the parts of a number
-
-abbrev pub keyIn : ℕ → ℕ
-keyIn n = n % 2 ^ 52
-
-abbrev pub portIn : ℕ → ℕ
-portIn n = n / 2 ^ 52 % 8
-
--- key and in use
-abbrev pub bodyIn : ℕ → ℕ
-bodyIn n = n / 2 ^ 57 * 2 ^ 57 + n % 2 ^ 52
+-- ---- the parts of a number: bit 0 mark, bit 1 static, bits 2 to 4 port, bits 5 to 10 zero, bit 11 in use, bits 12 to
+-- 63 key
 
 abbrev pub markedIn : ℕ → Bool
-markedIn n = eqb (n / 2 ^ 55 % 2) 1
+markedIn n = eqb (n % 2) 1
 
 abbrev pub staticIn : ℕ → Bool
-staticIn n = eqb (n / 2 ^ 56 % 2) 1
+staticIn n = eqb (n / 2 % 2) 1
 
--- "a place is in range if it is 0, or from 2^57 up to 2^58 - 1 with a port of 0 to 4"
+abbrev pub portIn : ℕ → ℕ
+portIn n = n / 4 % 8
+
+abbrev pub usedIn : ℕ → Bool
+usedIn n = eqb (n / 2048 % 2) 1
+
+abbrev pub keyIn : ℕ → ℕ
+keyIn n = n / 4096
+
+-- "port 0 to 4, and bits 5 to 10 zero": mark, static and port are below 20
+abbrev pub partsInRange : ℕ → Bool
+partsInRange n = ltb (n % 2048) 20
+
+-- "a place is in range if it is 0, or has bit 11 set and below it a number less than 20"
 unfoldable pub inRange : ℕ → Bool
-inRange n = eqb n 0 || (eqb (n / 2 ^ 57) 1 && leb (portIn n) 4)
+inRange n = eqb n 0 || (usedIn n && partsInRange n)
+
+-- the number is an entry's, with this key
+unfoldable pub has : ℕ → ℕ → Bool
+has n k = usedIn n && eqb (keyIn n) k
 
 -- ---- reading
 
 unfoldable pub entryIn : ℕ → Entry
 entryIn n = record { key = keyIn n; port = portIn n; marked = markedIn n; static = staticIn n }
 
--- "a place holds 0 when it is empty"
+-- "a place is empty where bit 11 is 0"
 unfoldable pub entryOf : ℕ → Option Entry
-entryOf n = if eqb n 0 then none else some (entryIn n)
+entryOf n = if usedIn n then some (entryIn n) else none
 
 unfoldable pub tableOf : List ℕ → Table
 tableOf memory place = entryOf (getD memory place 0)
@@ -53,4 +62,4 @@ bit true = 1
 bit false = 0
 
 unfoldable pub numberOf : Entry → ℕ
-numberOf e = 2 ^ 57 + bit (e .static) * 2 ^ 56 + bit (e .marked) * 2 ^ 55 + e .port * 2 ^ 52 + e .key
+numberOf e = e .key * 4096 + 2048 + e .port * 4 + bit (e .static) * 2 + bit (e .marked)

@@ -6,15 +6,15 @@ use mathlib.Core.List.{List}
 use mathlib.Core.Option.{none, some}
 use native.Mathlib.Decide.{decLe}
 use native.Mathlib.Omega.{arith}
-use lib.Dec.{eqb, leb}
+use lib.Dec.{eqb, ltb}
 use lib.ListN.{length, getD, set, replicate}
 use lib.Seq.{getD-set-same, getD-set-other}
-use borrow.Author.Tests.{eqb-true, eqb-false, eq-eqb, ne-eqb, leb-true, le-leb, lt-leb}
+use borrow.Author.Tests.{eqb-true, eqb-false, eq-eqb, ne-eqb, ltb-true, ltb-false, lt-ltb, le-ltb}
 use Rattle.rules.specs.Choice.{changed}
 use Rattle.rules.specs.Addresses.{Entry, withMark, older}
 use Rattle.rules.specs.Tables.{put}
-use Rattle.rules.proofs.Choice.{on, and-left, and-right}
-use Rattle.addresses.specs.Numbers.{keyIn, portIn, markedIn, staticIn, inRange, entryIn, entryOf, tableOf, bit, numberOf}
+use Rattle.rules.proofs.Choice.{on}
+use Rattle.addresses.specs.Numbers.{keyIn, portIn, markedIn, staticIn, usedIn, partsInRange, inRange, entryIn, entryOf, tableOf, bit, numberOf}
 use Rattle.addresses.specs.Writes.{markedNumber, olderNumber}
 use Rattle.addresses.specs.Theorems.{Fits}
 
@@ -23,58 +23,49 @@ entry-same k p u s = λ i. record { key = k i; port = p i; marked = u i; static 
 
 -- ---- what a number holds
 
--- the parts of a number above its key, from the number above the key
-upper-55 : (n : ℕ) → n / 2 ^ 55 ≡ n / 2 ^ 52 / 8
-upper-55 n = omega arith
+-- mark, static and port are those of the bits below in use
+low-mark : (n : ℕ) → n % 2 ≡ n % 2048 % 2
+low-mark n = omega arith
 
-upper-56 : (n : ℕ) → n / 2 ^ 56 ≡ n / 2 ^ 52 / 16
-upper-56 n = omega arith
+low-static : (n : ℕ) → n / 2 % 2 ≡ n % 2048 / 2 % 2
+low-static n = omega arith
 
-upper-57 : (n : ℕ) → n / 2 ^ 57 ≡ n / 2 ^ 52 / 32
-upper-57 n = omega arith
+low-port : (n : ℕ) → n / 4 % 8 ≡ n % 2048 / 4 % 8
+low-port n = omega arith
 
-upper-parts : (q : ℕ) → q / 32 ≡ 1 → 32 + q / 16 % 2 * 16 + q / 8 % 2 * 8 + q % 8 ≡ q
-upper-parts q h = omega arith
-
-parts : (n : ℕ) → n / 2 ^ 57 ≡ 1 → 2 ^ 57 + n / 2 ^ 56 % 2 * 2 ^ 56 + n / 2 ^ 55 % 2 * 2 ^ 55 + n / 2 ^ 52 % 8 * 2 ^ 52 + n % 2 ^ 52 ≡ n
-parts n h =
-    rw (upper-55 n, upper-56 n)
-    (weighed (n / 2 ^ 52) (n % 2 ^ 52) (n / 2 ^ 52 / 16 % 2) (n / 2 ^ 52 / 8 % 2) (n / 2 ^ 52 % 8) (upper-parts (n / 2 ^ 52) (sym (upper-57 n) ∙ h)) ∙ omega arith)
+low-parts : (r : ℕ) → r < 20 → r / 4 % 8 * 4 + r / 2 % 2 * 2 + r % 2 ≡ r
+low-parts r h =
+    let port : r / 4 % 8 ≡ r / 2 / 2 = omega arith in
+    let whole : r / 2 * 2 + r % 2 ≡ r = omega arith in
+    rw port (halved (r / 2) (r % 2) ∙ whole)
   where
-    weighed : (q r a b c : ℕ) → 32 + a * 16 + b * 8 + c ≡ q → 2 ^ 57 + a * 2 ^ 56 + b * 2 ^ 55 + c * 2 ^ 52 + r ≡ q * 2 ^ 52 + r
-    weighed q r a b c e = omega arith
+    halved : (q m : ℕ) → q / 2 * 4 + q % 2 * 2 + m ≡ q * 2 + m
+    halved q m = omega arith
 
--- a number whose mark is off, and the same with its mark on
-half : (p : ℕ) → p % 2 ≡ 0 → (p + 1) / 2 ≡ p / 2
-half p h = omega arith
-
-above-mark : (n : ℕ) → n / 2 ^ 55 % 2 ≡ 0 → (n + 2 ^ 55) / 2 ^ 56 ≡ n / 2 ^ 56
-above-mark n o =
-    let e : (n + 2 ^ 55) / 2 ^ 55 ≡ n / 2 ^ 55 + 1 = omega arith in
-    halved (n + 2 ^ 55) ∙ ap (λ (p : ℕ). p / 2) e ∙ half (n / 2 ^ 55) o ∙ sym (halved n)
+parts : (n : ℕ) → n / 2048 % 2 ≡ 1 → n % 2048 < 20 → n / 4096 * 4096 + 2048 + n / 4 % 8 * 4 + n / 2 % 2 * 2 + n % 2 ≡ n
+parts n u h =
+    rw (low-port n, low-static n, low-mark n)
+    (weighed (n / 4096 * 4096 + 2048) (n % 2048 / 4 % 8 * 4) (n % 2048 / 2 % 2 * 2) (n % 2048 % 2) (n % 2048) (low-parts (n % 2048) h) ∙ whole n u)
   where
-    halved : (m : ℕ) → m / 2 ^ 56 ≡ m / 2 ^ 55 / 2
-    halved m = omega arith
+    weighed : (q a b c r : ℕ) → a + b + c ≡ r → q + a + b + c ≡ q + r
+    weighed q a b c r e = omega arith
 
-above-static : (n : ℕ) → n / 2 ^ 55 % 2 ≡ 0 → (n + 2 ^ 55) / 2 ^ 57 ≡ n / 2 ^ 57
-above-static n o = halved (n + 2 ^ 55) ∙ ap (λ (p : ℕ). p / 2) (above-mark n o) ∙ sym (halved n)
-  where
-    halved : (m : ℕ) → m / 2 ^ 57 ≡ m / 2 ^ 56 / 2
-    halved m = omega arith
+    whole : (n : ℕ) → n / 2048 % 2 ≡ 1 → n / 4096 * 4096 + 2048 + n % 2048 ≡ n
+    whole n u = omega arith
 
-below-mark : (n : ℕ) → (n + 2 ^ 55) / 2 ^ 52 % 8 ≡ n / 2 ^ 52 % 8
-below-mark n = omega arith
+pub port-below : (n : ℕ) → n % 2048 < 20 → portIn n ≤ 4
+port-below n h = rw (low-port n) (omega arith)
 
-pub entry-of : (n : ℕ) → eqb n 0 ≡ false → entryOf n ≡ some (entryIn n)
+pub entry-of : (n : ℕ) → usedIn n ≡ true → entryOf n ≡ some (entryIn n)
 unfolding entryOf
-entry-of n z = rw z
+entry-of n u = rw u
 
-pub entry-there : (n : ℕ) (e : Entry) → entryOf n ≡ some e → (eqb n 0 ≡ false) × (entryIn n ≡ e)
+pub entry-there : (n : ℕ) (e : Entry) → entryOf n ≡ some e → (usedIn n ≡ true) × (entryIn n ≡ e)
 unfolding entryOf
 entry-there n e h =
-    on (eqb n 0)
-    (λ z. absurd (let c : none ≡ some e = rw z at h in let f : _≡_ {A = ℕ} 0 1 = cc in omega arith))
-    (λ z. (z, let c : some (entryIn n) ≡ some e = rw z at h in cc))
+    on (usedIn n)
+    (λ u. (u, let c : some (entryIn n) ≡ some e = rw u at h in cc))
+    (λ u. absurd (let c : none ≡ some e = rw u at h in let f : _≡_ {A = ℕ} 0 1 = cc in omega arith))
 
 bit-off : (x : ℕ) → eqb (x % 2) 1 ≡ false → x % 2 ≡ 0
 bit-off x h = elim (decLe 1 (x % 2)) as (λ _. x % 2 ≡ 0) [
@@ -88,23 +79,31 @@ bit-read x = on (eqb (x % 2) 1) (λ e. rw e (sym (eqb-true (x % 2) 1 e))) (λ e.
 
 -- ---- the range
 
-pub in-range : (n : ℕ) → n / 2 ^ 57 ≡ 1 → portIn n ≤ 4 → inRange n ≡ true
-unfolding inRange
-in-range n u p = rw (eq-eqb (n / 2 ^ 57) 1 u, le-leb (portIn n) 4 p, ne-eqb n 0 (λ z. omega arith))
+used-there : (n : ℕ) → usedIn n ≡ true → eqb n 0 ≡ false
+used-there n u = ne-eqb n 0 (λ z. omega (arith, eqb-true (n / 2048 % 2) 1 u))
 
-pub port-damaged : (n : ℕ) → n / 2 ^ 57 ≡ 1 → 4 < portIn n → inRange n ≡ false
+-- of a number in use, mark, static and port say whether it is in range
+pub used-range : (n : ℕ) → usedIn n ≡ true → inRange n ≡ partsInRange n
 unfolding inRange
-port-damaged n u p = rw (eq-eqb (n / 2 ^ 57) 1 u, lt-leb (portIn n) 4 p, ne-eqb n 0 (λ z. omega arith))
+used-range n u = rw (used-there n u, u)
+
+pub in-range : (n : ℕ) → usedIn n ≡ true → n % 2048 < 20 → inRange n ≡ true
+in-range n u p = used-range n u ∙ lt-ltb (n % 2048) 20 p
 
 pub zero-in-range : inRange 0 ≡ true
 unfolding inRange
 zero-in-range = refl
 
-pub in-use : (n : ℕ) → eqb n 0 ≡ false → inRange n ≡ true → (n / 2 ^ 57 ≡ 1) × (portIn n ≤ 4)
+pub in-use : (n : ℕ) → usedIn n ≡ true → inRange n ≡ true → n % 2048 < 20
+in-use n u r = ltb-true (n % 2048) 20 (sym (used-range n u) ∙ r)
+
+-- a place in range that is not in use holds 0
+unused-zero : (n : ℕ) → usedIn n ≡ false → inRange n ≡ true → n ≡ 0
 unfolding inRange
-in-use n z r =
-    let h : (eqb (n / 2 ^ 57) 1 && leb (portIn n) 4) ≡ true = rw z at r in
-    (eqb-true (n / 2 ^ 57) 1 (and-left (eqb (n / 2 ^ 57) 1) (leb (portIn n) 4) h), leb-true (portIn n) 4 (and-right (eqb (n / 2 ^ 57) 1) (leb (portIn n) 4) h))
+unused-zero n u r =
+    on (eqb n 0)
+    (λ z. eqb-true n 0 z)
+    (λ z. absurd (let c : false ≡ true = rw (z, u) at r in let f : _≡_ {A = ℕ} 0 1 = cc in omega arith))
 
 -- ---- writing and reading
 
@@ -118,109 +117,171 @@ unfolding bit
 bit-on true x h = eq-eqb x 1 h
 bit-on false x h = ne-eqb x 1 (λ e. omega arith)
 
+module _ (k p s m : ℕ) (hp : p ≤ 4) (hs : s ≤ 1) (hm : m ≤ 1) where
+  abbrev made : ℕ
+  made = k * 4096 + 2048 + p * 4 + s * 2 + m
+
+  made-key : made / 4096 ≡ k
+  made-key = omega arith
+
+  made-used : made / 2048 % 2 ≡ 1
+  made-used = omega arith
+
+  made-low : made % 2048 ≡ p * 4 + s * 2 + m
+  made-low = omega arith
+
+  made-port : made / 4 % 8 ≡ p
+  made-port = omega arith
+
+  made-static : made / 2 % 2 ≡ s
+  made-static = omega arith
+
+  made-mark : made % 2 ≡ m
+  made-mark = omega arith
+
 module _ (e : Entry) (f : Fits e) where
-  not-empty : eqb (numberOf e) 0 ≡ false
+  abbrev static-bit : bit (e .static) ≤ 1
+  static-bit = bit-below (e .static)
+
+  abbrev marked-bit : bit (e .marked) ≤ 1
+  marked-bit = bit-below (e .marked)
+
+  written-used : usedIn (numberOf e) ≡ true
   unfolding numberOf
-  not-empty = ne-eqb (numberOf e) 0 (λ z. omega arith)
+  written-used = eq-eqb (numberOf e / 2048 % 2) 1 (made-used (e .key) (e .port) (bit (e .static)) (bit (e .marked)) (f .port-fits) static-bit marked-bit)
 
   written : entryIn (numberOf e) ≡ e
   unfolding entryIn numberOf
   written =
-      entry-same (omega (arith, bit-below (e .marked), bit-below (e .static))) (omega (arith, bit-below (e .marked), bit-below (e .static)))
-      (bit-on (e .marked) (numberOf e / 2 ^ 55 % 2) (omega (arith, bit-below (e .marked), bit-below (e .static))))
-      (bit-on (e .static) (numberOf e / 2 ^ 56 % 2) (omega (arith, bit-below (e .marked), bit-below (e .static))))
+      entry-same (made-key (e .key) (e .port) (bit (e .static)) (bit (e .marked)) (f .port-fits) static-bit marked-bit)
+      (made-port (e .key) (e .port) (bit (e .static)) (bit (e .marked)) (f .port-fits) static-bit marked-bit)
+      (bit-on (e .marked) (numberOf e % 2) (made-mark (e .key) (e .port) (bit (e .static)) (bit (e .marked)) (f .port-fits) static-bit marked-bit))
+      (bit-on (e .static) (numberOf e / 2 % 2) (made-static (e .key) (e .port) (bit (e .static)) (bit (e .marked)) (f .port-fits) static-bit marked-bit))
 
   pub read-written : entryOf (numberOf e) ≡ some e
-  read-written = entry-of (numberOf e) not-empty ∙ ap some written
+  read-written = entry-of (numberOf e) written-used ∙ ap some written
 
   pub written-in-range : inRange (numberOf e) ≡ true
   unfolding numberOf
   written-in-range =
-      in-range (numberOf e) (omega (arith, bit-below (e .marked), bit-below (e .static))) (omega (arith, bit-below (e .marked), bit-below (e .static)))
+      let low : numberOf e % 2048 ≡ e .port * 4 + bit (e .static) * 2 + bit (e .marked) = made-low (e .key) (e .port) (bit (e .static)) (bit (e .marked)) (f .port-fits) static-bit marked-bit in
+      in-range (numberOf e) written-used (omega (arith, f .port-fits, static-bit, marked-bit))
 
-pub read-fits : (n : ℕ) (e : Entry) → inRange n ≡ true → entryOf n ≡ some e → Fits e
+pub read-fits : (n : ℕ) (e : Entry) → n < 2 ^ 64 → inRange n ≡ true → entryOf n ≡ some e → Fits e
 unfolding entryIn
-read-fits n e r h =
+read-fits n e below r h =
     let t = entry-there n e h in
-    rw (← t .1) (record { key-fits = omega arith; port-fits = in-use n (t .0) r .1 })
+    rw (← t .1) (record { key-fits = omega arith; port-fits = port-below n (in-use n (t .0) r) })
 
 pub written-read : (n : ℕ) (e : Entry) → inRange n ≡ true → entryOf n ≡ some e → numberOf e ≡ n
 unfolding entryIn numberOf
 written-read n e r h =
     let t = entry-there n e h in
-    let u : n / 2 ^ 57 ≡ 1 = in-use n (t .0) r .0 in
-    rw (← t .1, bit-read (n / 2 ^ 56), bit-read (n / 2 ^ 55)) (parts n u)
+    rw (← t .1, bit-read (n / 2), bit-read n) (parts n (eqb-true (n / 2048 % 2) 1 (t .0)) (in-use n (t .0) r))
 
 -- ---- marking
 
 -- what a search looks at in a number
 pub record Alike (m n : ℕ) : Type 0 where
-  pub range : inRange m ≡ inRange n
-  pub vacancy : eqb m 0 ≡ eqb n 0
+  pub vacancy : usedIn m ≡ usedIn n
   pub key : keyIn m ≡ keyIn n
   pub port : portIn m ≡ portIn n
+  pub range : partsInRange m ≡ partsInRange n
 
-module _ (n : ℕ) (z : eqb n 0 ≡ false) where
-  marked-off : n / 2 ^ 55 % 2 ≡ 0 → Alike (n + 2 ^ 55) n
-  unfolding inRange
-  marked-off o =
+module _ (n : ℕ) (o : n % 2 ≡ 0) where
+  above-mark : (n + 1) / 2 ≡ n / 2
+  above-mark = omega arith
+
+  above-used : (n + 1) / 2048 ≡ n / 2048
+  above-used = omega arith
+
+  above-key : (n + 1) / 4096 ≡ n / 4096
+  above-key = omega arith
+
+  above-port : (n + 1) / 4 ≡ n / 4
+  above-port = omega arith
+
+  above-low : (n + 1) % 2048 ≡ n % 2048 + 1
+  above-low = omega arith
+
+  above-range : partsInRange (n + 1) ≡ partsInRange n
+  above-range =
+      let even : n % 2048 % 2 ≡ 0 = omega arith in
+      on (ltb (n % 2048) 20)
+      (λ e. let h : n % 2048 < 20 = ltb-true (n % 2048) 20 e in lt-ltb ((n + 1) % 2048) 20 (omega (arith, above-low)) ∙ sym e)
+      (λ e. let h : 20 ≤ n % 2048 = ltb-false (n % 2048) 20 e in le-ltb ((n + 1) % 2048) 20 (omega (arith, above-low)) ∙ sym e)
+
+  marked-off : Alike (n + 1) n
+  marked-off =
       record {
-        range = rw (above-static n o, below-mark n, z, ne-eqb (n + 2 ^ 55) 0 (λ e. omega arith));
-        vacancy = rw z (ne-eqb (n + 2 ^ 55) 0 (λ e. omega arith));
-        key = omega arith;
-        port = below-mark n;
+        vacancy = ap (λ (q : ℕ). eqb (q % 2) 1) above-used;
+        key = above-key;
+        port = ap (λ (q : ℕ). q % 8) above-port;
+        range = above-range;
       }
 
-  pub marked-alike : Alike (markedNumber n) n
-  unfolding markedNumber
-  marked-alike = on (markedIn n)
-      (λ u. rw u (record { range = refl; vacancy = refl; key = refl; port = refl }))
-      (λ u. rw u (marked-off (bit-off (n / 2 ^ 55) u)))
+pub marked-alike : (n : ℕ) → Alike (markedNumber n) n
+unfolding markedNumber
+marked-alike n = on (markedIn n)
+    (λ u. rw u (record { range = refl; vacancy = refl; key = refl; port = refl }))
+    (λ u. rw u (marked-off n (bit-off n u)))
 
-  pub marked-entry : entryIn (markedNumber n) ≡ withMark true (entryIn n)
-  unfolding markedNumber withMark entryIn
-  marked-entry = on (markedIn n)
-      (λ u. rw u (entry-same refl refl u refl))
-      (λ u. rw u (entry-same (omega arith) (below-mark n) (eq-eqb ((n + 2 ^ 55) / 2 ^ 55 % 2) 1 (omega (arith, bit-off (n / 2 ^ 55) u)))
-      (ap (λ (q : ℕ). eqb (q % 2) 1) (above-mark n (bit-off (n / 2 ^ 55) u)))))
+pub marked-entry : (n : ℕ) → entryIn (markedNumber n) ≡ withMark true (entryIn n)
+unfolding markedNumber withMark entryIn
+marked-entry n = on (markedIn n)
+    (λ u. rw u (entry-same refl refl u refl))
+    (λ u. let o : n % 2 ≡ 0 = bit-off n u in
+    rw u (entry-same (above-key n o) (ap (λ (q : ℕ). q % 8) (above-port n o)) (eq-eqb ((n + 1) % 2) 1 (omega arith))
+    (ap (λ (q : ℕ). eqb (q % 2) 1) (above-mark n o))))
+
+pub marked-in-range : (n : ℕ) → usedIn n ≡ true → inRange (markedNumber n) ≡ inRange n
+marked-in-range n u =
+    let a = marked-alike n in
+    used-range (markedNumber n) (a .vacancy ∙ u) ∙ a .range ∙ sym (used-range n u)
 
 -- ---- ageing
 
--- an entry in range whose mark is on, without its mark
-module _ (n : ℕ) (z : eqb n 0 ≡ false) (r : inRange n ≡ true) (u : markedIn n ≡ true) where
-  unmarked : n - 2 ^ 55 + 2 ^ 55 ≡ n
-  unmarked = omega (arith, in-use n z r .0)
+-- a number whose mark is on, without its mark
+module _ (n : ℕ) (u : markedIn n ≡ true) where
+  odd : n % 2 ≡ 1
+  odd = eqb-true (n % 2) 1 u
 
-  mark-off : (n - 2 ^ 55) / 2 ^ 55 % 2 ≡ 0
-  mark-off =
-      let e : n / 2 ^ 55 ≡ (n - 2 ^ 55) / 2 ^ 55 + 1 = omega (arith, in-use n z r .0) in
-      omega (arith, eqb-true (n / 2 ^ 55 % 2) 1 u)
+  mark-off : (n - 1) % 2 ≡ 0
+  mark-off = omega (arith, odd)
 
-  unmarked-static : (n - 2 ^ 55) / 2 ^ 56 ≡ n / 2 ^ 56
-  unmarked-static = sym (above-mark (n - 2 ^ 55) mark-off) ∙ ap (λ (m : ℕ). m / 2 ^ 56) unmarked
+  unmarked : n - 1 + 1 ≡ n
+  unmarked = omega (arith, odd)
 
-  unmarked-use : (n - 2 ^ 55) / 2 ^ 57 ≡ n / 2 ^ 57
-  unmarked-use = sym (above-static (n - 2 ^ 55) mark-off) ∙ ap (λ (m : ℕ). m / 2 ^ 57) unmarked
+  unmarked-alike : Alike (n - 1) n
+  unmarked-alike =
+      let a = marked-off (n - 1) mark-off in
+      record {
+        vacancy = sym (a .vacancy) ∙ ap (λ (m : ℕ). usedIn m) unmarked;
+        key = sym (a .key) ∙ ap (λ (m : ℕ). keyIn m) unmarked;
+        port = sym (a .port) ∙ ap (λ (m : ℕ). portIn m) unmarked;
+        range = sym (a .range) ∙ ap (λ (m : ℕ). partsInRange m) unmarked;
+      }
 
-  unmarked-port : (n - 2 ^ 55) / 2 ^ 52 % 8 ≡ n / 2 ^ 52 % 8
-  unmarked-port = sym (below-mark (n - 2 ^ 55)) ∙ ap (λ (m : ℕ). m / 2 ^ 52 % 8) unmarked
+  unmarked-static : staticIn (n - 1) ≡ staticIn n
+  unmarked-static = ap (λ (q : ℕ). eqb (q % 2) 1) (sym (above-mark (n - 1) mark-off) ∙ ap (λ (m : ℕ). m / 2) unmarked)
 
-  unmarked-in-range : inRange (n - 2 ^ 55) ≡ true
-  unmarked-in-range = in-range (n - 2 ^ 55) (unmarked-use ∙ in-use n z r .0) (rw unmarked-port (in-use n z r .1))
+  module _ (i : usedIn n ≡ true) where
+    unmarked-in-range : inRange n ≡ true → inRange (n - 1) ≡ true
+    unmarked-in-range r =
+        used-range (n - 1) (unmarked-alike .vacancy ∙ i) ∙ unmarked-alike .range ∙ sym (used-range n i) ∙ r
 
-  unmarked-entry : staticIn n ≡ false → entryOf (n - 2 ^ 55) ≡ some (record { key = keyIn n; port = portIn n; marked = false; static = false })
-  unfolding entryIn
-  unmarked-entry s =
-      entry-of (n - 2 ^ 55) (ne-eqb (n - 2 ^ 55) 0 (λ e. omega (arith, in-use n z r .0)))
-      ∙ ap some (entry-same (omega (arith, in-use n z r .0)) unmarked-port (ne-eqb ((n - 2 ^ 55) / 2 ^ 55 % 2) 1 (λ e. omega (arith, mark-off)))
-      (ap (λ (q : ℕ). eqb (q % 2) 1) unmarked-static ∙ s))
+    unmarked-entry : staticIn n ≡ false → entryOf (n - 1) ≡ some (record { key = keyIn n; port = portIn n; marked = false; static = false })
+    unfolding entryIn
+    unmarked-entry s =
+        entry-of (n - 1) (unmarked-alike .vacancy ∙ i)
+        ∙ ap some (entry-same (unmarked-alike .key) (unmarked-alike .port) (ne-eqb ((n - 1) % 2) 1 (λ e. omega (arith, mark-off))) (unmarked-static ∙ s))
 
 module _ (n : ℕ) where
   number-stays : staticIn n ≡ true → olderNumber n ≡ n
   unfolding olderNumber
   number-stays s = rw s
 
-  number-unmarked : staticIn n ≡ false → markedIn n ≡ true → olderNumber n ≡ n - 2 ^ 55
+  number-unmarked : staticIn n ≡ false → markedIn n ≡ true → olderNumber n ≡ n - 1
   unfolding olderNumber
   number-unmarked s u = rw (s, u)
 
@@ -228,18 +289,18 @@ module _ (n : ℕ) where
   unfolding olderNumber
   number-goes s u = rw (s, u)
 
-  module _ (z : eqb n 0 ≡ false) where
+  module _ (i : usedIn n ≡ true) where
     entry-stays : staticIn n ≡ true → older (entryOf n) ≡ entryOf n
     unfolding older entryOf entryIn
-    entry-stays s = rw (z, s)
+    entry-stays s = rw (i, s)
 
     entry-unmarked : staticIn n ≡ false → markedIn n ≡ true → older (entryOf n) ≡ some (record { key = keyIn n; port = portIn n; marked = false; static = false })
     unfolding older withMark entryOf entryIn
-    entry-unmarked s u = rw (z, s, u)
+    entry-unmarked s u = rw (i, s, u)
 
     entry-goes : staticIn n ≡ false → markedIn n ≡ false → older (entryOf n) ≡ none
     unfolding older entryOf entryIn
-    entry-goes s u = rw (z, s, u)
+    entry-goes s u = rw (i, s, u)
 
 older-empty : (n : ℕ) → n ≡ 0 → entryOf (olderNumber n) ≡ older (entryOf n)
 unfolding olderNumber older entryOf
@@ -251,21 +312,27 @@ gone-empty = refl
 
 pub older-entry : (n : ℕ) → inRange n ≡ true → entryOf (olderNumber n) ≡ older (entryOf n)
 older-entry n r =
-    on (eqb n 0)
-    (λ z. older-empty n (eqb-true n 0 z))
-    (λ z. on (staticIn n)
-    (λ s. ap entryOf (number-stays n s) ∙ sym (entry-stays n z s))
+    on (usedIn n)
+    (λ i. on (staticIn n)
+    (λ s. ap entryOf (number-stays n s) ∙ sym (entry-stays n i s))
     (λ s. on (markedIn n)
-    (λ u. ap entryOf (number-unmarked n s u) ∙ unmarked-entry n z r u s ∙ sym (entry-unmarked n z s u))
-    (λ u. ap entryOf (number-goes n s u) ∙ gone-empty ∙ sym (entry-goes n z s u))))
+    (λ u. ap entryOf (number-unmarked n s u) ∙ unmarked-entry n u i s ∙ sym (entry-unmarked n i s u))
+    (λ u. ap entryOf (number-goes n s u) ∙ gone-empty ∙ sym (entry-goes n i s u))))
+    (λ i. older-empty n (unused-zero n i r))
+
+zero-stays : (n : ℕ) → n ≡ 0 → inRange (olderNumber n) ≡ true
+unfolding olderNumber
+zero-stays n z = rw z zero-in-range
 
 pub older-in-range : (n : ℕ) → inRange n ≡ true → inRange (olderNumber n) ≡ true
 older-in-range n r =
-    on (staticIn n)
+    on (usedIn n)
+    (λ i. on (staticIn n)
     (λ s. rw (number-stays n s) r)
     (λ s. on (markedIn n)
-    (λ u. rw (number-unmarked n s u) (unmarked-in-range n (ne-eqb n 0 (λ z. omega (arith, eqb-true (n / 2 ^ 55 % 2) 1 u))) r u))
-    (λ u. rw (number-goes n s u) zero-in-range))
+    (λ u. rw (number-unmarked n s u) (unmarked-in-range n u i r))
+    (λ u. rw (number-goes n s u) zero-in-range)))
+    (λ i. zero-stays n (unused-zero n i r))
 
 -- ---- one place
 

@@ -1,29 +1,29 @@
 -- A look-up that meets no damage is the rules' search, and a mark changes no look-up. Assumes nothing.
-use Prim.Native.Nat.{ℕ, _≤_, _<_}
+use Prim.Native.Nat.{ℕ, _%_, _≤_, _<_}
 use mathlib.Core.Path.{_≡_, refl, sym, ap, _∙_}
-use mathlib.Core.Bool.{true, false, not}
+use mathlib.Core.Bool.{true, false}
 use mathlib.Core.List.{List, [], _∷_}
 use mathlib.Core.Option.{Option, none, some}
 use native.Mathlib.Omega.{arith}
 use lib.Dec.{eqb}
 use lib.ListN.{length, getD, set}
 use lib.Seq.{getD-set-same, getD-set-other}
-use borrow.Author.Tests.{eqb-true, eqb-false, not-true}
+use borrow.Author.Tests.{eqb-true, eqb-false, ltb-true}
 use Rattle.rules.specs.Choice.{Each, nobody, also}
 use Rattle.rules.specs.Numbers.{placeCount}
 use Rattle.rules.specs.Addresses.{Entry, addressKeys, Table, places, find, emptyFor}
 use Rattle.rules.specs.Tables.{Found as Match, at, nowhere, meets, search, findIn, vacant, firstEmpty, emptyIn}
-use Rattle.rules.proofs.Choice.{on, onOption, and-left}
+use Rattle.rules.proofs.Choice.{on, onOption}
 use Rattle.rules.proofs.Places.{inside}
-use Rattle.addresses.specs.Numbers.{keyIn, portIn, inRange, entryOf, tableOf, allInRange}
+use Rattle.addresses.specs.Numbers.{portIn, partsInRange, has, entryOf, tableOf, allInRange}
 use Rattle.addresses.specs.Search.{holds, metInRange, answered, lookUp, placeOf, damaged}
-use Rattle.addresses.specs.Turns.{has, emptySoFar, unfound, seek}
+use Rattle.addresses.specs.Turns.{emptySoFar, unfound, answerAt, seek}
 use Rattle.addresses.specs.Writes.{markedNumber, markedBy}
 use Rattle.addresses.specs.Theorems.{SearchTheorems}
 use Rattle.addresses.specs.declared.LookUp.{LookUp}
 use Rattle.addresses.specs.declared.LookUp.the-variants.{Found, Vacant, Full, Damaged}
 use Rattle.addresses.proofs.Search.{look-up-seek}
-use Rattle.addresses.proofs.Entries.{Alike, marked-alike, entry-there, in-use}
+use Rattle.addresses.proofs.Entries.{Alike, marked-alike, port-below}
 use Rattle.addresses.proofs.Ranges.{all-at}
 
 -- ---- what the rules' search says
@@ -88,7 +88,7 @@ all-met : (memory : List ℕ) (k : ℕ) (is : List ℕ) → allInRange memory �
 unfolding metInRange
 all-met memory k [] h = refl
 all-met memory k (i ∷ is) h =
-    rw (all-at memory i h) (on (holds (tableOf memory i) k) (λ e. rw e) (λ e. rw e (all-met memory k is h)))
+    on (holds (tableOf memory i) k) (λ e. rw e (all-at memory i h)) (λ e. rw e (all-met memory k is h))
 
 pub undamaged : (memory : List ℕ) (k : ℕ) → allInRange memory ≡ true → damaged (lookUp memory k) ≡ false
 undamaged memory k h = rw (met-answer memory k (all-met memory k (places k) h)) (answered-whole (find (tableOf memory) k) (emptyFor (tableOf memory) k))
@@ -143,6 +143,10 @@ empty-alike : (m n empty i : ℕ) → Alike m n → emptySoFar empty m i ≡ emp
 unfolding emptySoFar
 empty-alike m n empty i a = rw (a .vacancy)
 
+answer-alike : (m n i : ℕ) → Alike m n → answerAt m i ≡ answerAt n i
+unfolding answerAt
+answer-alike m n i a = rw (a .range, a .port)
+
 seek-alike : (memory other : List ℕ) (k : ℕ) → ((i : ℕ) → Alike (getD memory i 0) (getD other i 0)) → (is : List ℕ) (empty : ℕ)
     → seek memory k is empty ≡ seek other k is empty
 unfolding seek
@@ -150,17 +154,17 @@ seek-alike memory other k a [] empty = refl
 seek-alike memory other k a (i ∷ is) empty =
     let m : ℕ = getD memory i 0 in
     let n : ℕ = getD other i 0 in
-    rw (a i .range, has-alike m n k (a i), a i .port, empty-alike m n empty i (a i), seek-alike memory other k a is (emptySoFar empty n i))
+    rw (has-alike m n k (a i), answer-alike m n i (a i), empty-alike m n empty i (a i), seek-alike memory other k a is (emptySoFar empty n i))
 
 pub look-up-alike : (memory other : List ℕ) → ((i : ℕ) → Alike (getD memory i 0) (getD other i 0)) → (k : ℕ) → lookUp memory k ≡ lookUp other k
 look-up-alike memory other a k = look-up-seek memory k ∙ seek-alike memory other k a (places k) 4112 ∙ sym (look-up-seek other k)
 
-mark-alike : (memory : List ℕ) (place : ℕ) → place < length memory → eqb (getD memory place 0) 0 ≡ false
+mark-alike : (memory : List ℕ) (place : ℕ) → place < length memory
     → (i : ℕ) → Alike (getD (set memory place (markedNumber (getD memory place 0))) i 0) (getD memory i 0)
-mark-alike memory place h z i =
+mark-alike memory place h i =
     let n : ℕ = markedNumber (getD memory place 0) in
     on (eqb place i)
-    (λ e. rw (← eqb-true place i e, getD-set-same memory place n 0 h) (marked-alike (getD memory place 0) z))
+    (λ e. rw (← eqb-true place i e, getD-set-same memory place n 0 h) (marked-alike (getD memory place 0)))
     (λ e. rw (getD-set-other memory place i n 0 (λ q. eqb-false place i e (sym q))) (record { range = refl; vacancy = refl; key = refl; port = refl }))
 
 kept : (memory : List ℕ) (k other : ℕ) → length memory ≡ placeCount → (l : LookUp) → lookUp memory k ≡ l → lookUp (markedBy l memory) other ≡ lookUp memory other
@@ -169,7 +173,7 @@ kept memory k other long (Found port place) e =
     let f = found-at memory k port place e in
     let inner : place < placeCount = find-hit (tableOf memory) k place (f .entry) (f .finds) .inside in
     look-up-alike (set memory place (markedNumber (getD memory place 0))) memory
-    (mark-alike memory place (omega arith) (entry-there (getD memory place 0) (f .entry) (found-there memory k port place f) .0)) other
+    (mark-alike memory place (omega arith)) other
 kept memory k other long (Vacant place) e = refl
 kept memory k other long Full e = refl
 kept memory k other long Damaged e = refl
@@ -186,22 +190,23 @@ unfound-port empty port place h =
     (λ e. absurd (let c : Full ≡ Found port place = rw e at h in let z : _≡_ {A = ℕ} 0 1 = cc in omega arith))
     (λ e. absurd (let c : Vacant empty ≡ Found port place = rw e at h in let z : _≡_ {A = ℕ} 0 1 = cc in omega arith))
 
-has-port : (n k : ℕ) → inRange n ≡ true → has n k ≡ true → portIn n ≤ 4
-unfolding has
-has-port n k r m = in-use n (not-true (eqb n 0) (and-left (not (eqb n 0)) (eqb (keyIn n) k) m)) r .1
+answer-port : (n i port place : ℕ) → answerAt n i ≡ Found port place → port ≤ 4
+unfolding answerAt
+answer-port n i port place h =
+    on (partsInRange n)
+    (λ r. let c : Found (portIn n) i ≡ Found port place = rw r at h in
+    let x : portIn n ≡ port = cc in
+    rw (← x) (port-below n (ltb-true (n % 2048) 20 r)))
+    (λ r. absurd (let c : Damaged ≡ Found port place = rw r at h in let z : _≡_ {A = ℕ} 0 1 = cc in omega arith))
 
 seek-port : (memory : List ℕ) (k : ℕ) (is : List ℕ) (empty port place : ℕ) → seek memory k is empty ≡ Found port place → port ≤ 4
 unfolding seek
 seek-port memory k [] empty port place h = unfound-port empty port place h
 seek-port memory k (i ∷ is) empty port place h =
     let n : ℕ = getD memory i 0 in
-    on (inRange n)
-    (λ r. on (has n k)
-    (λ m. let c : Found (portIn n) i ≡ Found port place = rw (r, m) at h in
-    let x : portIn n ≡ port = cc in
-    rw (← x) (has-port n k r m))
-    (λ m. seek-port memory k is (emptySoFar empty n i) port place (rw (r, m) at h)))
-    (λ r. absurd (let c : Damaged ≡ Found port place = rw r at h in let z : _≡_ {A = ℕ} 0 1 = cc in omega arith))
+    on (has n k)
+    (λ m. answer-port n i port place (rw m at h))
+    (λ m. seek-port memory k is (emptySoFar empty n i) port place (rw m at h))
 
 pub port-inside : (memory : List ℕ) (k port place : ℕ) → lookUp memory k ≡ Found port place → port ≤ 4
 port-inside memory k port place h = seek-port memory k (places k) 4112 port place (sym (look-up-seek memory k) ∙ h)

@@ -11,7 +11,7 @@ use lib.ListN.{length, getD, drop, set, length-set, length-map, List·getD-map, 
 use lib.Seq.{sets, drop-cons, drop-drop, drop-set-lt, getD-drop}
 use Rattle.rules.specs.Choice.{if_then_else_}
 use Rattle.rules.specs.Addresses.{Entry, goes, removed}
-use Rattle.slices.specs.Runs.{sets-turn, sets-whole}
+use Rattle.slices.proofs.Runs.{sets-turn, sets-whole}
 use Rattle.addresses.specs.Numbers.{inRange, entryOf, tableOf, allInRange}
 use Rattle.addresses.specs.Writes.{olderNumber, agedBy}
 

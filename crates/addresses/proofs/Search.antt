@@ -1,7 +1,7 @@
 -- A search turn by turn is the look-up of the definition. Assumes nothing.
-use Prim.Native.Nat.{ℕ, zero, suc, _+_, _*_, _-_, _/_, _^_, _≤_, _<_}
+use Prim.Native.Nat.{ℕ, zero, suc, _+_, _*_, _-_, _<_}
 use mathlib.Core.Path.{_≡_, refl, sym, ap, _∙_}
-use mathlib.Core.Bool.{Bool, true, false, not}
+use mathlib.Core.Bool.{Bool, true, false}
 use mathlib.Core.List.{List, [], _∷_, _++_}
 use mathlib.Core.Option.{Option, some}
 use native.Mathlib.Nat.{add-zero, add-suc, suc-add}
@@ -9,21 +9,21 @@ use native.Mathlib.Numerals.{add-one}
 use native.Mathlib.Decide.{decLe}
 use native.Mathlib.Omega.{arith}
 use lib.Dec.{eqb, ltb}
-use lib.ListN.{length, getD, drop, List·getD-append}
+use lib.ListN.{length, getD, drop, List·getD-append, drop-of-length-le}
 use lib.Seq.{drop-cons, getD-append-add, drop-length}
-use borrow.Author.Tests.{eq-eqb, ne-eqb, eqb-true, lt-ltb, le-ltb, not-true}
+use borrow.Author.Tests.{ne-eqb, lt-ltb, le-ltb}
 use Rattle.rules.specs.Choice.{if_then_else_, Each, nobody, also}
 use Rattle.rules.specs.Numbers.{placeCount}
 use Rattle.rules.specs.Tables.{meets, search, findIn, vacant, firstEmpty, emptyIn}
 use Rattle.rules.specs.Addresses.{run, places, bucketOf, addressKeys, find, emptyFor}
-use Rattle.rules.proofs.Choice.{on, and-left, and-right}
+use Rattle.rules.proofs.Choice.{on}
 use Rattle.rules.proofs.Places.{twenty, inside}
-use Rattle.addresses.specs.Numbers.{keyIn, portIn, bodyIn, inRange, entryIn, entryOf, tableOf}
+use Rattle.addresses.specs.Numbers.{keyIn, usedIn, has, entryIn, entryOf, tableOf}
 use Rattle.addresses.specs.Search.{holds, metInRange, answered, lookUp}
-use Rattle.addresses.specs.Turns.{placeAt, has, emptySoFar, unfound, seek}
+use Rattle.addresses.specs.Turns.{placeAt, emptySoFar, unfound, answerAt, seek, firstWith}
 use Rattle.addresses.specs.declared.LookUp.{LookUp}
-use Rattle.addresses.specs.declared.LookUp.the-variants.{Found, Damaged}
-use Rattle.addresses.proofs.Entries.{in-range, in-use, port-damaged}
+use Rattle.addresses.specs.declared.LookUp.the-variants.{Damaged}
+use Rattle.addresses.proofs.Entries.{used-range}
 
 -- ---- the place of a turn
 
@@ -61,37 +61,13 @@ turn-cons k turn place h e =
 -- ---- the outcomes of a turn
 
 module _ (memory : List ℕ) (k i : ℕ) (is : List ℕ) (empty : ℕ) where
-  cons-damaged : inRange (getD memory i 0) ≡ false → seek memory k (i ∷ is) empty ≡ Damaged
+  cons-met : has (getD memory i 0) k ≡ true → seek memory k (i ∷ is) empty ≡ answerAt (getD memory i 0) i
   unfolding seek
-  cons-damaged r = rw r
+  cons-met m = rw m
 
-  cons-found : inRange (getD memory i 0) ≡ true → has (getD memory i 0) k ≡ true → seek memory k (i ∷ is) empty ≡ Found (portIn (getD memory i 0)) i
+  cons-next : has (getD memory i 0) k ≡ false → seek memory k (i ∷ is) empty ≡ seek memory k is (emptySoFar empty (getD memory i 0) i)
   unfolding seek
-  cons-found r m = rw (r, m)
-
-  cons-next : inRange (getD memory i 0) ≡ true → has (getD memory i 0) k ≡ false
-      → seek memory k (i ∷ is) empty ≡ seek memory k is (emptySoFar empty (getD memory i 0) i)
-  unfolding seek
-  cons-next r m = rw (r, m)
-
--- one comparison tells an entry with the key
-
-body-match : (n k : ℕ) → k < 2 ^ 52 → bodyIn n ≡ 2 ^ 57 + k → (n / 2 ^ 57 ≡ 1) × (keyIn n ≡ k)
-body-match n k h e = (omega arith, omega arith)
-
-has-match : (n k : ℕ) → n / 2 ^ 57 ≡ 1 → keyIn n ≡ k → has n k ≡ true
-unfolding has
-has-match n k u e = rw (ne-eqb n 0 (λ z. omega arith), eq-eqb (keyIn n) k e)
-
-has-body : (n k : ℕ) → inRange n ≡ true → has n k ≡ true → bodyIn n ≡ 2 ^ 57 + k
-unfolding has
-has-body n k r m =
-    let u : n / 2 ^ 57 ≡ 1 = in-use n (not-true (eqb n 0) (and-left (not (eqb n 0)) (eqb (keyIn n) k) m)) r .0 in
-    let e : keyIn n ≡ k = eqb-true (keyIn n) k (and-right (not (eqb n 0)) (eqb (keyIn n) k) m) in
-    omega arith
-
-has-none : (n k : ℕ) → inRange n ≡ true → (bodyIn n ≡ 2 ^ 57 + k → ⊥) → has n k ≡ false
-has-none n k r ne = on (has n k) (λ m. absurd (ne (has-body n k r m))) (λ m. m)
+  cons-next m = rw m
 
 module _ (memory : List ℕ) (k turn empty : ℕ) where
   pub seek-end : turn ≡ 20 → seek memory k (drop turn (places k)) empty ≡ unfound empty
@@ -99,27 +75,13 @@ module _ (memory : List ℕ) (k turn empty : ℕ) where
   seek-end e = rw (e, ← twenty k, drop-length)
 
   module _ (place : ℕ) (h : turn < 20) (e : place ≡ placeAt (bucketOf k) turn) where
-    pub seek-damaged : inRange (getD memory place 0) ≡ false → seek memory k (drop turn (places k)) empty ≡ Damaged
-    seek-damaged r = rw (turn-cons k turn place h e) (cons-damaged memory k place (drop (turn + 1) (places k)) empty r)
+    pub seek-met : has (getD memory place 0) k ≡ true → seek memory k (drop turn (places k)) empty ≡ answerAt (getD memory place 0) place
+    seek-met m = rw (turn-cons k turn place h e) (cons-met memory k place (drop (turn + 1) (places k)) empty m)
 
-    pub seek-next : inRange (getD memory place 0) ≡ true → (bodyIn (getD memory place 0) ≡ 2 ^ 57 + k → ⊥)
+    pub seek-next : has (getD memory place 0) k ≡ false
         → (next : ℕ) → next ≡ emptySoFar empty (getD memory place 0) place
         → seek memory k (drop turn (places k)) empty ≡ seek memory k (drop (turn + 1) (places k)) next
-    seek-next r ne next q =
-        rw (turn-cons k turn place h e, q) (cons-next memory k place (drop (turn + 1) (places k)) empty r (has-none (getD memory place 0) k r ne))
-
-    module _ (small : k < 2 ^ 52) (m : bodyIn (getD memory place 0) ≡ 2 ^ 57 + k) (port : ℕ) (p : port ≡ portIn (getD memory place 0)) where
-      pub seek-found : port ≤ 4 → seek memory k (drop turn (places k)) empty ≡ Found port place
-      seek-found b =
-          let n : ℕ = getD memory place 0 in
-          let u = body-match n k small m in
-          rw (turn-cons k turn place h e, p)
-          (cons-found memory k place (drop (turn + 1) (places k)) empty (in-range n (u .0) (rw p at b)) (has-match n k (u .0) (u .1)))
-
-      pub seek-port-damaged : 4 < port → seek memory k (drop turn (places k)) empty ≡ Damaged
-      seek-port-damaged b =
-          let n : ℕ = getD memory place 0 in
-          seek-damaged (port-damaged n (body-match n k small m .0) (rw p at b))
+    seek-next m next q = rw (turn-cons k turn place h e, q) (cons-next memory k place (drop (turn + 1) (places k)) empty m)
 
 -- ---- all the turns
 
@@ -139,52 +101,46 @@ or-else-empty empty i next h =
     (λ e. rw e (rw e))
 
 -- one more place: nothing there
-rest-empty : (memory : List ℕ) (k i : ℕ) (is : List ℕ) (empty : ℕ) → i < 4112 → getD memory i 0 ≡ 0
+rest-empty : (memory : List ℕ) (k i : ℕ) (is : List ℕ) (empty : ℕ) → i < 4112 → usedIn (getD memory i 0) ≡ false
     → rest memory k (i ∷ is) empty ≡ rest memory k is (emptySoFar empty (getD memory i 0) i)
-unfolding rest metInRange search firstEmpty meets vacant holds tableOf entryOf inRange emptySoFar
-rest-empty memory k i is empty h e =
-    rw e (ap (λ (o : Option ℕ). if metInRange memory k is then (answered (search addressKeys (tableOf memory) k is) o) else Damaged)
+unfolding rest metInRange search firstEmpty meets vacant holds tableOf entryOf emptySoFar
+rest-empty memory k i is empty h u =
+    rw u (ap (λ (o : Option ℕ). if metInRange memory k is then (answered (search addressKeys (tableOf memory) k is) o) else Damaged)
     (sym (or-else-empty empty i (firstEmpty (tableOf memory) is) h)))
 
--- an entry with another key, in range
-rest-other : (memory : List ℕ) (k i : ℕ) (is : List ℕ) (empty : ℕ) → inRange (getD memory i 0) ≡ true → eqb (getD memory i 0) 0 ≡ false
+-- an entry with another key
+rest-other : (memory : List ℕ) (k i : ℕ) (is : List ℕ) (empty : ℕ) → usedIn (getD memory i 0) ≡ true
     → eqb (keyIn (getD memory i 0)) k ≡ false → rest memory k (i ∷ is) empty ≡ rest memory k is (emptySoFar empty (getD memory i 0) i)
 unfolding rest metInRange search firstEmpty meets vacant holds tableOf entryOf entryIn emptySoFar
-rest-other memory k i is empty r z o = rw (r, z, o)
+rest-other memory k i is empty u o = rw (u, o)
 
-rest-found : (memory : List ℕ) (k i : ℕ) (is : List ℕ) (empty : ℕ) → inRange (getD memory i 0) ≡ true → eqb (getD memory i 0) 0 ≡ false
-    → eqb (keyIn (getD memory i 0)) k ≡ true → rest memory k (i ∷ is) empty ≡ Found (portIn (getD memory i 0)) i
-unfolding rest metInRange search meets holds tableOf entryOf entryIn answered
-rest-found memory k i is empty r z o = rw (r, z, o)
-
-rest-damaged : (memory : List ℕ) (k i : ℕ) (is : List ℕ) (empty : ℕ) → inRange (getD memory i 0) ≡ false → rest memory k (i ∷ is) empty ≡ Damaged
-unfolding rest metInRange
-rest-damaged memory k i is empty r = rw r
+rest-met : (memory : List ℕ) (k i : ℕ) (is : List ℕ) (empty : ℕ) → usedIn (getD memory i 0) ≡ true
+    → eqb (keyIn (getD memory i 0)) k ≡ true → rest memory k (i ∷ is) empty ≡ answerAt (getD memory i 0) i
+unfolding rest metInRange search meets holds tableOf entryOf entryIn answered answerAt
+rest-met memory k i is empty u o = rw (used-range (getD memory i 0) u, u, o)
 
 rest-end : (memory : List ℕ) (k empty : ℕ) → seek memory k [] empty ≡ rest memory k [] empty
 unfolding seek unfound rest orElse metInRange search firstEmpty answered
 rest-end memory k empty = on (eqb empty 4112) (λ e. rw e) (λ e. rw e)
 
-has-empty : (n k : ℕ) → eqb n 0 ≡ true → has n k ≡ false
+has-empty : (n k : ℕ) → usedIn n ≡ false → has n k ≡ false
 unfolding has
-has-empty n k z = rw z
+has-empty n k u = rw u
 
-has-entry : (n k : ℕ) (b : Bool) → eqb n 0 ≡ false → eqb (keyIn n) k ≡ b → has n k ≡ b
+has-entry : (n k : ℕ) (b : Bool) → usedIn n ≡ true → eqb (keyIn n) k ≡ b → has n k ≡ b
 unfolding has
-has-entry n k b z o = rw (z, o)
+has-entry n k b u o = rw (u, o)
 
 seek-rest : (memory : List ℕ) (k : ℕ) (is : List ℕ) (empty : ℕ) → Each (λ (i : ℕ). i < placeCount) is → seek memory k is empty ≡ rest memory k is empty
 seek-rest memory k [] empty nobody = rest-end memory k empty
 seek-rest memory k (i ∷ is) empty (also h hs) =
     let n : ℕ = getD memory i 0 in
     let later : seek memory k is (emptySoFar empty n i) ≡ rest memory k is (emptySoFar empty n i) = seek-rest memory k is (emptySoFar empty n i) hs in
-    on (inRange n)
-    (λ r. on (eqb n 0)
-    (λ z. cons-next memory k i is empty r (has-empty n k z) ∙ later ∙ sym (rest-empty memory k i is empty h (eqb-true n 0 z)))
-    (λ z. on (eqb (keyIn n) k)
-    (λ o. cons-found memory k i is empty r (has-entry n k true z o) ∙ sym (rest-found memory k i is empty r z o))
-    (λ o. cons-next memory k i is empty r (has-entry n k false z o) ∙ later ∙ sym (rest-other memory k i is empty r z o))))
-    (λ r. cons-damaged memory k i is empty r ∙ sym (rest-damaged memory k i is empty r))
+    on (usedIn n)
+    (λ u. on (eqb (keyIn n) k)
+    (λ o. cons-met memory k i is empty (has-entry n k true u o) ∙ sym (rest-met memory k i is empty u o))
+    (λ o. cons-next memory k i is empty (has-entry n k false u o) ∙ later ∙ sym (rest-other memory k i is empty u o)))
+    (λ u. cons-next memory k i is empty (has-empty n k u) ∙ later ∙ sym (rest-empty memory k i is empty h u))
 
 whole : (memory : List ℕ) (k : ℕ) → lookUp memory k ≡ rest memory k (places k) 4112
 unfolding lookUp rest find findIn emptyFor emptyIn orElse
@@ -192,3 +148,41 @@ whole memory k = refl
 
 pub look-up-seek : (memory : List ℕ) (k : ℕ) → lookUp memory k ≡ seek memory k (places k) 4112
 look-up-seek memory k = whole memory k ∙ sym (seek-rest memory k (places k) 4112 (inside k))
+
+-- ---- the four ways first
+
+way-cons : (from way : ℕ) → way < 4 → drop way (run from 4) ≡ (from + way) ∷ drop (way + 1) (run from 4)
+way-cons from way h =
+    drop-cons (run from 4) way 0 (rw length-run h) ∙ rw (add-one, getD-run from 4 way h)
+
+module _ (memory : List ℕ) (k from way : ℕ) where
+  pub ways-end : way ≡ 4 → firstWith memory k (drop way (run from 4)) ≡ 4112
+  unfolding firstWith
+  ways-end e = rw (drop-of-length-le (run from 4) {i = way} (rw length-run (omega arith)))
+
+  module _ (h : way < 4) where
+    pub ways-met : has (getD memory (from + way) 0) k ≡ true → firstWith memory k (drop way (run from 4)) ≡ from + way
+    unfolding firstWith
+    ways-met m = rw (way-cons from way h) (rw m)
+
+    pub ways-next : has (getD memory (from + way) 0) k ≡ false
+        → firstWith memory k (drop way (run from 4)) ≡ firstWith memory k (drop (way + 1) (run from 4))
+    unfolding firstWith
+    ways-next m = rw (way-cons from way h) (rw m)
+
+-- a match among the first places of a search ends it
+seek-first : (memory : List ℕ) (k : ℕ) (is more : List ℕ) (empty place : ℕ) → firstWith memory k is ≡ place → (place ≡ 4112 → ⊥)
+    → seek memory k (is ++ more) empty ≡ answerAt (getD memory place 0) place
+unfolding firstWith
+seek-first memory k [] more empty place f ne = absurd (ne (sym f))
+seek-first memory k (i ∷ is) more empty place f ne =
+    let n : ℕ = getD memory i 0 in
+    on (has n k)
+    (λ m. let e : i ≡ place = rw m at f in rw (← e) (cons-met memory k i (is ++ more) empty m))
+    (λ m. cons-next memory k i (is ++ more) empty m ∙ seek-first memory k is more (emptySoFar empty n i) place (rw m at f) ne)
+
+pub look-up-way : (memory : List ℕ) (k from place : ℕ) → from ≡ bucketOf k * 4 → place ≡ firstWith memory k (run from 4) → (place ≡ 4112 → ⊥)
+    → lookUp memory k ≡ answerAt (getD memory place 0) place
+unfolding places
+look-up-way memory k from place b f ne =
+    look-up-seek memory k ∙ seek-first memory k (run (bucketOf k * 4) 4) (run 4096 16) 4112 place (rw (← b) (sym f)) ne

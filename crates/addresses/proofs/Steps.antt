@@ -17,7 +17,7 @@ use Rattle.addresses.specs.Writes.{markedNumber, markedBy, learnedNumber
 use Rattle.addresses.specs.Theorems.{Fits, StepTheorems, RangeTheorems}
 use Rattle.addresses.specs.declared.LookUp.{LookUp}
 use Rattle.addresses.specs.declared.LookUp.the-variants.{Found, Vacant, Full, Damaged}
-use Rattle.addresses.proofs.Entries.{zero-in-range, marked-alike, marked-entry, entry-of, entry-there, older-entry, read-written, written-in-range, table-set}
+use Rattle.addresses.proofs.Entries.{zero-in-range, marked-alike, marked-entry, marked-in-range, entry-of, entry-there, older-entry, read-written, written-in-range, table-set}
 use Rattle.addresses.proofs.Passes.{older-read}
 use Rattle.addresses.proofs.Ranges.{all-at, all-set, all-older}
 use Rattle.addresses.proofs.LookUps.{Hit, find-hit, empty-inside, look-up-finds, found-at, found-there}
@@ -43,7 +43,7 @@ static-read n e h = ap (λ (x : Entry). x .static) (entry-there n e h .1)
 marked-read : (n : ℕ) (e : Entry) → entryOf n ≡ some e → entryOf (markedNumber n) ≡ some (withMark true e)
 marked-read n e h =
     let t = entry-there n e h in
-    entry-of (markedNumber n) (marked-alike n (t .0) .vacancy ∙ t .0) ∙ ap some (marked-entry n (t .0) ∙ ap (withMark true) (t .1))
+    entry-of (markedNumber n) (marked-alike n .vacancy ∙ t .0) ∙ ap some (marked-entry n ∙ ap (withMark true) (t .1))
 
 -- ---- one place
 
@@ -140,7 +140,7 @@ mark-range memory good k (Found port place) e =
     let n : ℕ = getD memory place 0 in
     let f = found-at memory k port place e in
     all-set memory place (markedNumber n) good
-    (marked-alike n (entry-there n (f .entry) (found-there memory k port place f) .0) .range ∙ all-at memory place good)
+    (marked-in-range n (entry-there n (f .entry) (found-there memory k port place f) .0) ∙ all-at memory place good)
 mark-range memory good k (Vacant place) e = good
 mark-range memory good k Full e = good
 mark-range memory good k Damaged e = good

@@ -1,6 +1,7 @@
--- A look-up in address memory: the rules' search of the table that the memory holds, or damage met on the way. Assumes nothing: these are definitions.
+-- A look-up in address memory: the rules' search of the table that the memory holds, or damage met on the way. Assumes
+-- nothing: these are definitions.
 use Prim.Native.Nat.{ℕ}
-use mathlib.Core.Bool.{Bool, true, false, _&&_}
+use mathlib.Core.Bool.{Bool, true, false}
 use mathlib.Core.List.{List, [], _∷_}
 use mathlib.Core.Option.{Option, none, some}
 use lib.Dec.{eqb}
@@ -16,10 +17,10 @@ unfoldable pub holds : Option Entry → ℕ → Bool
 holds none k = false
 holds (some e) k = eqb (e .key) k
 
--- "A search meets the places in its order up to the first that is out of range or has the key; with no match it meets all twenty."
+-- "Of a search only the place of the match is met; of another place every number has a meaning."
 unfoldable pub metInRange : List ℕ → ℕ → List ℕ → Bool
 metInRange memory k [] = true
-metInRange memory k (i ∷ is) = inRange (getD memory i 0) && (if holds (tableOf memory i) k then true else metInRange memory k is)
+metInRange memory k (i ∷ is) = if holds (tableOf memory i) k then inRange (getD memory i 0) else metInRange memory k is
 
 -- the port and the place of a match; else the first empty place of the twenty, if there is one
 unfoldable pub answered : Match Entry → Option ℕ → LookUp
@@ -29,7 +30,9 @@ answered nowhere none = Full
 
 unfoldable pub lookUp : List ℕ → ℕ → LookUp
 lookUp memory k =
-    if metInRange memory k (places k) then (answered (find (tableOf memory) k) (emptyFor (tableOf memory) k)) else Damaged
+    if metInRange memory k (places k)
+    then (answered (find (tableOf memory) k) (emptyFor (tableOf memory) k))
+    else Damaged
 
 -- the place that a look-up found; 0 where it found none
 abbrev pub placeOf : LookUp → ℕ
@@ -38,8 +41,8 @@ placeOf (Vacant place) = place
 placeOf Full = 0
 placeOf Damaged = 0
 
--- a removal is refused with 9 where nothing matched and no damage was met, a static call with 8 where all is full, every call with 10
--- where memory is damaged
+-- a removal is refused with 9 where nothing matched and no damage was met, a static call with 8 where all is full,
+-- every call with 10 where memory is damaged
 abbrev pub matched : LookUp → Bool
 matched (Found port place) = true
 matched (Vacant place) = false

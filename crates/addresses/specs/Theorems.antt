@@ -1,5 +1,6 @@
--- What address memory stands for: its numbers are entries, its look-up is the rules' search, its changes are the rules' changes.
--- `proofs/Ranges.antt`, `proofs/LookUps.antt`, `proofs/Steps.antt` and `proofs/Frames.antt` prove it. Assumes nothing: these are definitions.
+-- What address memory stands for: its numbers are entries, its look-up is the rules' search, its changes are the rules'
+-- changes. `proofs/Ranges.antt`, `proofs/LookUps.antt`, `proofs/Steps.antt` and `proofs/Frames.antt` prove it. Assumes
+-- nothing: these are definitions.
 use Prim.Native.Nat.{ℕ, _^_, _≤_, _<_}
 use mathlib.Core.Path.{_≡_}
 use mathlib.Core.Bool.{true, false, not}
@@ -7,7 +8,8 @@ use mathlib.Core.List.{List}
 use mathlib.Core.Option.{none, some}
 use lib.ListN.{length, set, replicate}
 use Rattle.rules.specs.Numbers.{placeCount}
-use Rattle.rules.specs.Addresses.{Entry, find, emptyFor, lookUp as ruleLookUp, afterLookUp, isNoPlace, learningOf, learn, aged, setStatic, noPlaceFor, remove}
+use Rattle.rules.specs.Addresses.{Entry, find, emptyFor, lookUp as ruleLookUp, afterLookUp, isNoPlace, learningOf}
+use Rattle.rules.specs.Addresses.{learn, aged, setStatic, noPlaceFor, remove}
 use Rattle.rules.specs.Tables.{put, isFound}
 use Rattle.addresses.specs.Numbers.{inRange, entryOf, tableOf, allInRange, numberOf}
 use Rattle.addresses.specs.Search.{answered, lookUp, placeOf, matched, full, damaged}
@@ -24,9 +26,10 @@ pub record NumberTheorems : Type 0 where
   pub read-written : (e : Entry) → Fits e → entryOf (numberOf e) ≡ some e
   pub written-in-range : (e : Entry) → Fits e → inRange (numberOf e) ≡ true
   pub written-read : (n : ℕ) (e : Entry) → inRange n ≡ true → entryOf n ≡ some e → numberOf e ≡ n
-  pub read-fits : (n : ℕ) (e : Entry) → inRange n ≡ true → entryOf n ≡ some e → Fits e
+  pub read-fits : (n : ℕ) (e : Entry) → n < 2 ^ 64 → inRange n ≡ true → entryOf n ≡ some e → Fits e
   -- a write of one place changes that place of the table
-  pub table-set : (memory : List ℕ) (place n : ℕ) → place < length memory → tableOf (set memory place n) ≡ put place (entryOf n) (tableOf memory)
+  pub table-set : (memory : List ℕ) (place n : ℕ) → place < length memory
+      → tableOf (set memory place n) ≡ put place (entryOf n) (tableOf memory)
   pub table-fresh : (n : ℕ) → tableOf (replicate n 0) ≡ (λ (place : ℕ). none)
   pub fresh-in-range : (n : ℕ) → allInRange (replicate n 0) ≡ true
 
@@ -43,24 +46,31 @@ pub record SearchTheorems : Type 0 where
       → lookUp (markedBy (lookUp memory k) memory) other ≡ lookUp memory other
 
 -- each change, at what a look-up without damage found, is the rules' change of the table
-pub record StepTheorems (memory : List ℕ) (long : length memory ≡ placeCount) (k : ℕ) (whole : damaged (lookUp memory k) ≡ false) : Type 0 where
+pub record StepTheorems (memory : List ℕ) (long : length memory ≡ placeCount) (k : ℕ) (whole : damaged (lookUp memory k)
+    ≡ false) : Type 0 where
   -- refusals 9 and 8
   pub matched-is : matched (lookUp memory k) ≡ isFound (find (tableOf memory) k)
   pub full-is : full (lookUp memory k) ≡ noPlaceFor (tableOf memory) k
-  pub mark-is : tableOf (markedBy (lookUp memory k) memory) ≡ afterLookUp (ruleLookUp (tableOf memory) false k) (tableOf memory)
+  pub mark-is : tableOf (markedBy (lookUp memory k) memory)
+      ≡ afterLookUp (ruleLookUp (tableOf memory) false k) (tableOf memory)
   pub remove-is : tableOf (removedBy (lookUp memory k) memory) ≡ remove (tableOf memory) k
-  pub learn-is : (port : ℕ) → k < 2 ^ 52 → port ≤ 4 → tableOf (learnedBy (lookUp memory k) k port memory .1) ≡ learn (tableOf memory) k port
-  pub learn-placed : (port : ℕ) → learnedBy (lookUp memory k) k port memory .0 ≡ not (isNoPlace (learningOf (tableOf memory) k))
-  pub static-is : (port : ℕ) → k < 2 ^ 52 → port ≤ 4 → tableOf (staticBy (lookUp memory k) k port memory) ≡ setStatic (tableOf memory) k port
+  pub learn-is : (port : ℕ) → k < 2 ^ 52 → port ≤ 4
+      → tableOf (learnedBy (lookUp memory k) k port memory .1) ≡ learn (tableOf memory) k port
+  pub learn-placed : (port : ℕ)
+      → learnedBy (lookUp memory k) k port memory .0 ≡ not (isNoPlace (learningOf (tableOf memory) k))
+  pub static-is : (port : ℕ) → k < 2 ^ 52 → port ≤ 4
+      → tableOf (staticBy (lookUp memory k) k port memory) ≡ setStatic (tableOf memory) k port
 
 -- a frame marks its destination and then learns its source, at what both look-ups found before: the rules' order
 pub record FrameTheorems (memory : List ℕ) (long : length memory ≡ placeCount) (destination source : ℕ)
-    (whole : damaged (lookUp memory destination) ≡ false) (whole₂ : damaged (lookUp memory source) ≡ false) (port : ℕ) : Type 0 where
+    (whole : damaged (lookUp memory destination) ≡ false) (whole₂ : damaged (lookUp memory source)
+    ≡ false) (port : ℕ) : Type 0 where
   pub learn-marked : source < 2 ^ 52 → port ≤ 4
       → tableOf (learnedBy (lookUp memory source) source port (markedBy (lookUp memory destination) memory) .1)
       ≡ learn (afterLookUp (ruleLookUp (tableOf memory) false destination) (tableOf memory)) source port
   pub placed-marked : learnedBy (lookUp memory source) source port (markedBy (lookUp memory destination) memory) .0
-      ≡ not (isNoPlace (learningOf (afterLookUp (ruleLookUp (tableOf memory) false destination) (tableOf memory)) source))
+      ≡ not (isNoPlace (learningOf (afterLookUp (ruleLookUp (tableOf memory) false destination) (tableOf memory))
+      source))
 
 -- no change changes the length
 pub record LengthTheorems (memory : List ℕ) : Type 0 where
@@ -76,5 +86,7 @@ pub record RangeTheorems (memory : List ℕ) (good : allInRange memory ≡ true)
   pub age-in-range : allInRange (agedBy memory .1) ≡ true
   pub mark-in-range : (k : ℕ) → allInRange (markedBy (lookUp memory k) memory) ≡ true
   pub remove-in-range : (k : ℕ) → allInRange (removedBy (lookUp memory k) memory) ≡ true
-  pub learn-in-range : (k port : ℕ) → k < 2 ^ 52 → port ≤ 4 → allInRange (learnedBy (lookUp memory k) k port memory .1) ≡ true
-  pub static-in-range : (k port : ℕ) → k < 2 ^ 52 → port ≤ 4 → allInRange (staticBy (lookUp memory k) k port memory) ≡ true
+  pub learn-in-range : (k port : ℕ) → k < 2 ^ 52 → port ≤ 4
+      → allInRange (learnedBy (lookUp memory k) k port memory .1) ≡ true
+  pub static-in-range : (k port : ℕ) → k < 2 ^ 52 → port ≤ 4
+      → allInRange (staticBy (lookUp memory k) k port memory) ≡ true

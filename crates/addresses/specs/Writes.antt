@@ -1,4 +1,5 @@
--- What each change makes of address memory: of one place, that a look-up found before, or of every place. Assumes nothing: these are definitions.
+-- What each change makes of address memory: of one place, that a look-up found before, or of every place. Assumes
+-- nothing: these are definitions.
 use Prim.Native.Nat.{ℕ}
 use mathlib.Core.Bool.{Bool, true, false}
 use mathlib.Core.List.{List, map}

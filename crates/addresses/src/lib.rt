@@ -1,12 +1,13 @@
-// Address memory: 4,112 numbers, searched by key. What a change writes is found by a look-up before, so that each change is one write.
+// Address memory: 4,112 numbers, searched by key. What a change writes is found by a look-up before, so that each
+// change is one write.
 
 ghost use mathlib.Core.Path.{_≡_};
 ghost use Prim.Native.Nat.{_<_, _≤_, _^_};
 ghost use lib.ListN.{length, replicate};
-ghost use Rattle.rules.specs.Addresses.{key, bucketOf};
+ghost use Rattle.rules.specs.Addresses.{key, bucketOf, run};
 ghost use Rattle.addresses.specs.Numbers.{allInRange};
 ghost use Rattle.addresses.specs.Search.{lookUp, placeOf};
-ghost use Rattle.addresses.specs.Turns.{placeAt, emptySoFar, unfound};
+ghost use Rattle.addresses.specs.Turns.{placeAt, emptySoFar, unfound, answerAt, firstWith};
 ghost use Rattle.addresses.specs.Writes.{markedBy, learnedBy, staticBy, removedBy, agedBy};
 
 // No place: there are 4,112.
@@ -19,7 +20,7 @@ pub enum LookUp {
     Vacant(usize),
     // no match, and all twenty places in use
     Full,
-    // a place out of range was met
+    // a match out of range
     Damaged,
 }
 
@@ -31,7 +32,8 @@ pub fn key_of(gid: u32, address: u64) -> u64
     gid as u64 * 281474976710656 + address
 }
 
-// The ten-bit groups of a key, joined by exclusive or: its upper three groups over its lower three, and then those three.
+// The ten-bit groups of a key, joined by exclusive or: its upper three groups over its lower three, and then those
+// three.
 pub fn bucket_of(key: u64) -> usize
     ensures { λ r. ⌜ (r ≡ bucketOf key) × (r < 1024) ⌝ }
 {
@@ -55,10 +57,11 @@ fn place_at(bucket: usize, turn: usize) -> usize
 fn first_empty(before: usize, number: u64, place: usize) -> usize
     ensures { λ r. ⌜ r ≡ emptySoFar before number place ⌝ }
 {
-    if number == 0 {
-        if before == NO_PLACE {
-            return place;
-        }
+    if address_numbers::is_used(number) {
+        return before;
+    }
+    if before == NO_PLACE {
+        return place;
     }
     before
 }
@@ -72,13 +75,25 @@ fn not_found(empty: usize) -> LookUp
     LookUp::Vacant(empty)
 }
 
+// Of a match: its number may have a port above 4, or bits that are no part of it.
+fn answer_at(number: u64, place: usize) -> LookUp
+    ensures { λ r. ⌜ r ≡ answerAt number place ⌝ }
+{
+    if address_numbers::parts_in_range(number) {
+        return LookUp::Found {
+            port: address_numbers::port_of(number),
+            place,
+        };
+    }
+    LookUp::Damaged
+}
+
 // "The search takes the bucket's four places, then the sixteen spares; the first match ends it."
-pub fn look_up(addresses: &[u64], key: u64) -> LookUp
+pub fn whole_search(addresses: &[u64], key: u64) -> LookUp
     requires { ⌜ (length (now addresses) ≡ 4112) × (key < 2 ^ 52) ⌝ }
     ensures { λ r. ⌜ r ≡ lookUp (now (addresses .entry)) key ⌝ }
 {
     let bucket = bucket_of(key);
-    let wanted = address_numbers::IN_USE + key;
     let mut empty = NO_PLACE;
     let mut turn = 0;
     let found = 'search: loop {
@@ -87,21 +102,44 @@ pub fn look_up(addresses: &[u64], key: u64) -> LookUp
         }
         let place = place_at(bucket, turn);
         let number = addresses[place];
-        if address_numbers::body_of(number) == wanted {
+        if address_numbers::is_entry(number, key) {
             break 'search place;
         }
-        if address_numbers::in_range(number) {
-            empty = first_empty(empty, number, place);
-            turn += 1;
-        } else {
-            return LookUp::Damaged;
-        }
+        empty = first_empty(empty, number, place);
+        turn += 1;
     };
-    let port = address_numbers::port_of(addresses[found]);
-    if port > 4 {
-        return LookUp::Damaged;
+    answer_at(addresses[found], found)
+}
+
+// The first of four places that has the key; NO_PLACE: none has.
+fn way_of(addresses: &[u64], from: usize, key: u64) -> usize
+    requires { ⌜ (length (now addresses) ≡ 4112) × (from < 4096) × (key < 2 ^ 52) ⌝ }
+    ensures { λ r. ⌜ (r ≡ firstWith (now (addresses .entry)) key (run from 4)) × (r ≤ 4112) ⌝ }
+{
+    let mut way = 0;
+    let found = 'ways: loop {
+        if way == 4 {
+            return NO_PLACE;
+        }
+        let place = from + way;
+        if address_numbers::is_entry(addresses[place], key) {
+            break 'ways place;
+        }
+        way += 1;
+    };
+    found
+}
+
+// The same answer, for frames: most matches stand in the bucket, so only its four places come before the whole search.
+pub fn look_up(addresses: &[u64], key: u64) -> LookUp
+    requires { ⌜ (length (now addresses) ≡ 4112) × (key < 2 ^ 52) ⌝ }
+    ensures { λ r. ⌜ r ≡ lookUp (now (addresses .entry)) key ⌝ }
+{
+    let way = way_of(addresses, bucket_of(key) * 4, key);
+    if way == NO_PLACE {
+        return whole_search(addresses, key);
     }
-    LookUp::Found { port, place: found }
+    answer_at(addresses[way], way)
 }
 
 // "A hit marks the entry as used."

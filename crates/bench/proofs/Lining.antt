@@ -8,7 +8,7 @@ use native.Mathlib.Omega.{arith}
 use borrow.Author.Tests.{lt-ltb, le-ltb}
 use lib.ListN.{length, take, drop, length-drop, drop-of-length-le}
 use lib.Seq.{take-all}
-use Rattle.slices.specs.Runs.{sets-end}
+use Rattle.slices.proofs.Runs.{sets-end}
 use Rattle.rules.specs.Refusals.{badRecord}
 use Rattle.lent.specs.declared.Answer.{Answer}
 use Rattle.lent.specs.Answers.{refusedBy}

@@ -8,7 +8,7 @@ use lib.Dec.{eqb}
 use lib.ListN.{length, take, drop}
 use lib.Seq.{sets}
 use Rattle.rules.proofs.Choice.{on}
-use Rattle.slices.specs.Runs.{part-run}
+use Rattle.slices.proofs.Runs.{part-run}
 use Rattle.bench.specs.Steady.{left-length}
 
 -- `moved`: the input after the move; `after`: after the reading, which leaves the front as it is

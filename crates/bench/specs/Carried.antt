@@ -1,4 +1,5 @@
--- The call that a record asks, with its numbers in the call's order: what the record answers, and what it leaves of the memories.
+-- The call that a record asks, with its numbers in the call's order: what the record answers, and what it leaves of the
+-- memories.
 -- Assumes nothing: these are definitions.
 use Prim.Native.Nat.{ℕ}
 use mathlib.Core.List.{List}
@@ -11,7 +12,8 @@ use Rattle.records.specs.declared.requests.OperationNumbers.{OperationNumbers}
 use Rattle.records.specs.declared.requests.PortNumbers.{PortNumbers}
 use Rattle.records.specs.declared.requests.VlanNumbers.{VlanNumbers}
 use Rattle.records.specs.declared.requests.Request.{Request}
-use Rattle.records.specs.declared.requests.Request.the-variants.{FrameIn, Take, Age, Counter, Port, Vlan, ClearVlan, Static, Remove, Map, QueueSwitch, Drain, Bpdu, Bad}
+use Rattle.records.specs.declared.requests.Request.the-variants.{FrameIn, Take, Age, Counter, Port, Vlan, ClearVlan}
+use Rattle.records.specs.declared.requests.Request.the-variants.{Static, Remove, Map, QueueSwitch, Drain, Bpdu, Bad}
 use Rattle.frame_in.specs.Call.{frameInCall}
 use Rattle.take_out.specs.Take.{takeCall}
 use Rattle.take_out.specs.Drain.{drainCall}

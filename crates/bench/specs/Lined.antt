@@ -1,4 +1,5 @@
--- The lines behind one another: where the next one goes, and what it makes of the text. Assumes nothing: these are definitions.
+-- The lines behind one another: where the next one goes, and what it makes of the text. Assumes nothing: these are
+-- definitions.
 use Prim.Native.Nat.{ℕ, _-_}
 use mathlib.Core.List.{List}
 use lib.Dec.{ltb}

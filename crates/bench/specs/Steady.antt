@@ -14,5 +14,6 @@ pub record Steady (p : Progress) (input text : ℕ) : Type 0 where
   pub waiting : p .used ≤ text
 
 -- how much was read and not yet taken
-pub left-length : (input : List ℕ) (at end : ℕ) → at ≤ end → end ≤ length input → length (take (end - at) (drop at input)) ≡ end - at
+pub left-length : (input : List ℕ) (at end : ℕ) → at ≤ end → end ≤ length input
+    → length (take (end - at) (drop at input)) ≡ end - at
 left-length input at end h g = length-take-le (end - at) (drop at input) (simp length-drop (omega arith))

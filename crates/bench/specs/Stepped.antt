@@ -28,12 +28,16 @@ stoppedAt p = record { at = p .at; end = p .end; used = p .used; number = p .num
 
 -- the progress after a line: where the record ends, the line's number, where the line ends, and whether the run goes on
 abbrev pub afterLine : Progress → ℕ → ℕ → ℕ → Bool → Progress
-afterLine p at number used on = record { at = at; end = p .end; used = used; number = number; ended = p .ended; on = on }
+afterLine p at number used on =
+    record { at = at; end = p .end; used = used; number = number; ended = p .ended; on = on }
 
 -- "a length under 2 or a cut record ends the run after its line with kind 0 and refusal 11"
 abbrev pub cutLine : List ℕ → Progress → ℕ → Answer → Progress × List ℕ
-cutLine text p number answer =
-    (afterLine p (p .at) number (lined text (p .used) number 0 answer .0) false, lined text (p .used) number 0 answer .1)
+cutLine text p number answer = (
+  afterLine p (p .at) number (lined text (p .used) number 0 answer .0) false,
+  lined text (p .used) number 0 answer
+      .1,
+)
 
 unfoldable pub cutAt : List ℕ → Progress → Progress × List ℕ
 cutAt text p = cutLine text p (numberAfter p) (refusedBy badRecord)
@@ -52,12 +56,15 @@ recordLine text p long number kind done = (
 )
 
 -- the call that the record asks, and its line
-abbrev pub recordDone : List ℕ → List ℕ → List ℕ → List ℕ → List ℕ → Progress → ℕ → List ℕ → Progress × (Memories × List ℕ)
+abbrev pub recordDone : List ℕ → List ℕ → List ℕ → List ℕ → List ℕ → Progress → ℕ → List ℕ
+    → Progress × (Memories × List ℕ)
 recordDone cells links addresses out text p long bytes =
     recordLine text p long (numberAfter p) (kindOf bytes) (carriedOut cells links addresses out bytes (requestOf bytes))
 
-unfoldable pub carriedAt : List ℕ → List ℕ → List ℕ → List ℕ → List ℕ → List ℕ → Progress → ℕ → Progress × (Memories × List ℕ)
-carriedAt cells links addresses out input text p long = recordDone cells links addresses out text p long (recordAt input p long)
+unfoldable pub carriedAt : List ℕ → List ℕ → List ℕ → List ℕ → List ℕ → List ℕ → Progress → ℕ
+    → Progress × (Memories × List ℕ)
+carriedAt cells links addresses out input text p long =
+    recordDone cells links addresses out text p long (recordAt input p long)
 
 -- ---- a step
 
@@ -76,12 +83,15 @@ abbrev pub nextAt : List ℕ → Progress → Next
 nextAt input p = nextOf (take (p .end - p .at) (drop (p .at) input)) (p .ended)
 
 -- a step by what comes next: how far the run has come then, the memories, the input and the text
-abbrev pub Stepped : Next → List ℕ → List ℕ → List ℕ → List ℕ → List ℕ → List ℕ → Progress → Progress → Memories → List ℕ → List ℕ → Type 0
+abbrev pub Stepped : Next → List ℕ → List ℕ → List ℕ → List ℕ → List ℕ → List ℕ → Progress → Progress → Memories
+    → List ℕ → List ℕ → Type 0
 Stepped More cells links addresses out input text p r m read lines =
     Refilled p r input read × (m ≡ (cells, links, addresses, out)) × (lines ≡ text)
 Stepped Finished cells links addresses out input text p r m read lines =
-    _≡_ {A = Progress × (Memories × List ℕ)} (r, (m, lines)) (stoppedAt p, ((cells, links, addresses, out), text)) × (read ≡ input)
+    _≡_ {A = Progress × (Memories × List ℕ)} (r, (m, lines)) (stoppedAt p, ((cells, links, addresses, out), text))
+    × (read ≡ input)
 Stepped Cut cells links addresses out input text p r m read lines =
     _≡_ {A = Progress × List ℕ} (r, lines) (cutAt text p) × (m ≡ (cells, links, addresses, out)) × (read ≡ input)
 Stepped (Whole long) cells links addresses out input text p r m read lines =
-    _≡_ {A = Progress × (Memories × List ℕ)} (r, (m, lines)) (carriedAt cells links addresses out input text p long) × (read ≡ input)
+    _≡_ {A = Progress × (Memories × List ℕ)} (r, (m, lines)) (carriedAt cells links addresses out input text p long)
+    × (read ≡ input)

@@ -62,7 +62,9 @@ pub fn answer_to(
     bytes: &[u8],
 ) -> Answer
     requires { ⌜ 2 ≤ length (now bytes) ⌝ }
-    ensures { λ r. ⌜ (r, (now (cells .exit), now (links .exit), now (addresses .exit), now (out .exit))) ≡ carriedOut (now (cells .entry)) (now (links .entry)) (now (addresses .entry)) (now (out .entry)) (now (bytes .entry)) (requestOf (now (bytes .entry))) ⌝ }
+    ensures { λ r. ⌜ (r, (now (cells .exit), now (links .exit), now (addresses .exit), now (out .exit)))
+        ≡ carriedOut (now (cells .entry)) (now (links .entry)) (now (addresses .entry)) (now (out .entry))
+        (now (bytes .entry)) (requestOf (now (bytes .entry))) ⌝ }
 {
     let request = records::request_of(bytes);
     match request {

@@ -11,15 +11,16 @@ ghost use Rattle.bench.specs.Stepped.{Refilled};
 // Reads into the buffer from place `from` on. Answers how many bytes came, 0 at the end of the input.
 fn read_more(input: &mut [u8], from: usize) -> usize
     requires { ⌜ from ≤ length (now input) ⌝ }
-    ensures { λ r. ⌜ (from + r ≤ length (now (input .entry))) × (take from (now (input .exit)) ≡ take from (now (input .entry))) ⌝ }
+    ensures { λ r. ⌜ (from + r ≤ length (now (input .entry)))
+        × (take from (now (input .exit)) ≡ take from (now (input .entry))) ⌝ }
 {
     let part = &mut input[from..];
     let got = libc::read(STDIN_FILENO, part);
     io::count(got, part)
 }
 
-// Moves what was not yet taken to the front of the buffer and reads behind it. The lines are written first, so that whoever
-// hands over a record sees its line.
+// Moves what was not yet taken to the front of the buffer and reads behind it. The lines are written first, so that
+// whoever hands over a record sees its line.
 pub fn refill(input: &mut [u8], text: &[u8], p: Progress) -> Progress
     requires { ⌜ Steady p (length (now input)) (length (now text)) ⌝ }
     ensures { λ r. ⌜ Refilled p r (now (input .entry)) (now (input .exit)) ⌝ }

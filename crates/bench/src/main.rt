@@ -7,7 +7,7 @@ mod run;
 
 fn main() {
     let mut cells = [0u8; 16000];
-    let mut links = [0u32; 5440];
+    let mut links = [0u32; 5024];
     let mut addresses = [0u64; 4112];
     let mut out = [0u8; 4091];
     let mut input = [0u8; 131072];

@@ -56,8 +56,17 @@ fn carry_out(
     p: Progress,
     long: usize,
 ) -> Progress
-    requires { ⌜ Steady p (length (now input)) (length (now text)) × (64 ≤ length (now text)) × (2 ≤ long) × (p .at + 2 + long ≤ p .end) ⌝ }
-    ensures { λ r. ⌜ (r, ((now (cells .exit), now (links .exit), now (addresses .exit), now (out .exit)), now (text .exit))) ≡ carriedAt (now (cells .entry)) (now (links .entry)) (now (addresses .entry)) (now (out .entry)) (now (input .entry)) (now (text .entry)) p long ⌝ }
+    requires { ⌜ Steady p (length (now input)) (length (now text)) × (64 ≤ length (now text)) × (2 ≤ long)
+        × (p .at + 2 + long ≤ p .end) ⌝ }
+    ensures { λ r. ⌜ (
+      r,
+      (
+        (now (cells .exit), now (links .exit), now (addresses .exit), now (out .exit)),
+        now (text .exit),
+      ),
+    )
+        ≡ carriedAt (now (cells .entry)) (now (links .entry)) (now (addresses .entry)) (now (out .entry))
+        (now (input .entry)) (now (text .entry)) p long ⌝ }
     ensures { λ r. ⌜ Steady r (length (now (input .entry))) (length (now (text .entry))) ⌝ }
 {
     let from = p.at + 2;
@@ -86,7 +95,10 @@ fn step(
     p: Progress,
 ) -> Progress
     requires { ⌜ Steady p (length (now input)) (length (now text)) × (64 ≤ length (now text)) ⌝ }
-    ensures { λ r. ⌜ Stepped (nextAt (now (input .entry)) p) (now (cells .entry)) (now (links .entry)) (now (addresses .entry)) (now (out .entry)) (now (input .entry)) (now (text .entry)) p r (now (cells .exit), now (links .exit), now (addresses .exit), now (out .exit)) (now (input .exit)) (now (text .exit)) ⌝ }
+    ensures { λ r. ⌜ Stepped (nextAt (now (input .entry)) p) (now (cells .entry)) (now (links .entry))
+        (now (addresses .entry)) (now (out .entry)) (now (input .entry)) (now (text .entry)) p r
+        (now (cells .exit), now (links .exit), now (addresses .exit), now (out .exit)) (now (input .exit))
+        (now (text .exit)) ⌝ }
     ensures { λ r. ⌜ Steady r (length (now (input .entry))) (length (now (text .entry))) ⌝ }
 {
     let at = p.at;
@@ -100,7 +112,8 @@ fn step(
     }
 }
 
-// A proved loop has to end, and nothing says that an input does: the loop counts its turns down from a number that no run uses up.
+// A proved loop has to end, and nothing says that an input does: the loop counts its turns down from a number that no
+// run uses up.
 pub fn run(
     cells: &mut [u8],
     links: &mut [u32],

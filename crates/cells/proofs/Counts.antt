@@ -1,13 +1,18 @@
 -- How often a number stands in a list, and lists whose numbers are all below n. Assumes nothing.
 use mathlib.Core.Path.{_≡_, refl}
-use mathlib.Core.Bool.{Bool, true, false, and-eq-true-iff}
+use mathlib.Core.Bool.{Bool, true, false, _&&_, and-eq-true-iff}
 use mathlib.Core.List.{List, [], _∷_, _++_}
 use Prim.Native.Nat.{ℕ, _+_, _≤_, _<_}
 use native.Mathlib.Nat.{zero-add}
 use native.Mathlib.Omega.{arith}
 use lib.Dec.{ltb}
 use borrow.Author.Tests.{ltb-true, eq-eqb}
-use Rattle.cells.specs.Chains.{allBelow, one, count}
+use Rattle.cells.specs.Chains.{one, count}
+
+-- each of the numbers is below n
+abbrev pub allBelow : ℕ → List ℕ → Bool
+allBelow n [] = true
+allBelow n (c ∷ cs) = ltb c n && allBelow n cs
 
 pub one-le : (b : Bool) → one b ≤ 1
 one-le true = omega arith

@@ -9,10 +9,10 @@ use native.Mathlib.Decide.{decLe}
 use native.Mathlib.Omega.{arith}
 use lib.ListN.{length, take, drop, length-append, length-take, length-drop, take-append-drop}
 use lib.Seq.{sets, length-sets, take-all, take-append-le, take-append-add, take-take, drop-append-le, drop-append-seam}
-use Rattle.slices.specs.Runs.{part-before, part-after, part-run}
-use Rattle.cells.specs.Chains.{next, follow, allBelow, count}
+use Rattle.slices.proofs.Runs.{part-before, part-after, part-run}
+use Rattle.cells.specs.Chains.{next, follow, count}
 use Rattle.cells.specs.Bytes.{storeCells, loadCells, headerIn, frontIn, frameIn}
-use Rattle.cells.proofs.Counts.{count-head, count-ne, below-head, below-tail}
+use Rattle.cells.proofs.Counts.{allBelow, count-head, count-ne, below-head, below-tail}
 use Rattle.cells.proofs.Steps.{follow-cons}
 use Rattle.cells.proofs.Parts.{length-part, drop-part, drop-take}
 
@@ -81,7 +81,7 @@ load-stored n mem (c ∷ cs) bytes f b d h =
     (ap (take (length (take 80 bytes))) kept ∙ take-take (length (take 80 bytes)) 80 (drop (80 * c) first) (short bytes) ∙ part-run mem (80 * c) (take 80 bytes) (omega (arith, short bytes)))
     (load-stored n first cs (drop 80 bytes) (omega arith) (below-tail n c cs b) (λ x. omega (arith, d x)) (simp length-drop (omega arith)))
 
--- a frame that was stored behind its header, and the header
+-- a frame that was stored behind n its header, and the header
 module _ (n : ℕ) (mem cs header frame : List ℕ) (fits : 80 * n ≤ length mem) (below : allBelow n cs ≡ true) (distinct : (c : ℕ) → count c cs ≤ 1)
     (eight : length header ≡ 8) (room : 8 + length frame ≤ 80 * length cs) where
   stored : List ℕ
@@ -113,29 +113,29 @@ module _ (n : ℕ) (mem cs header frame : List ℕ) (fits : 80 * n ≤ length me
 
 -- ---- the first cell
 
-module _ (l mem : List ℕ) (k c : ℕ) (some : 0 < k) (fits : 80 * c + 80 ≤ length mem) where
+module _ (n : ℕ) (l mem : List ℕ) (k c : ℕ) (some : 0 < k) (fits : 80 * c + 80 ≤ length mem) where
   cell : List ℕ
   cell = take 80 (drop (80 * c) mem)
 
   rest : List ℕ
-  rest = loadCells mem (follow l (k - 1) (next l c))
+  rest = loadCells mem (follow n l (k - 1) (next n l c))
 
-  whole : loadCells mem (follow l k c) ≡ cell ++ rest
+  whole : loadCells mem (follow n l k c) ≡ cell ++ rest
   unfolding cell rest
-  whole = rw (follow-cons l k c some)
+  whole = rw (follow-cons n l k c some)
 
   cell-long : length cell ≡ 80
   unfolding cell
   cell-long = length-part (80 * c) 80 mem fits
 
-  pub header-first : take 8 (loadCells mem (follow l k c)) ≡ headerIn mem c
+  pub header-first : take 8 (loadCells mem (follow n l k c)) ≡ headerIn mem c
   unfolding cell
   header-first = ap (take 8) whole ∙ take-append-le 8 cell rest (omega (arith, cell-long)) ∙ take-take 8 80 (drop (80 * c) mem) (omega arith)
 
-  pub frame-first : (long m : ℕ) → m ≤ long → m ≤ 72 → take m (frameIn mem (follow l k c) long) ≡ frontIn mem c m
+  pub frame-first : (long m : ℕ) → m ≤ long → m ≤ 72 → take m (frameIn mem (follow n l k c) long) ≡ frontIn mem c m
   unfolding frameIn cell
   frame-first long m h g =
-      take-take m long (drop 8 (loadCells mem (follow l k c))) h
+      take-take m long (drop 8 (loadCells mem (follow n l k c))) h
       ∙ ap (λ (v : List ℕ). take m (drop 8 v)) whole
       ∙ ap (take m) (drop-append-le 8 cell rest (omega (arith, cell-long)))
       ∙ take-append-le m (drop 8 cell) rest (simp length-drop (omega (arith, cell-long)))

@@ -1,16 +1,16 @@
 -- What the tests before taking and before giving back say of link memory. Assumes nothing.
-use mathlib.Core.Path.{_≡_, refl}
+use mathlib.Core.Path.{_≡_, refl, sym, ap₂}
 use mathlib.Core.Bool.{Bool, true, false, _&&_, and-eq-true-iff}
 use mathlib.Core.List.{List}
 use Prim.Native.Nat.{ℕ, _+_, _-_, _≤_, _<_}
 use native.Mathlib.Omega.{arith}
 use lib.Dec.{leb, ltb}
-use borrow.Author.Tests.{leb-true, ltb-true}
+use borrow.Author.Tests.{leb-true, ltb-true, le-leb, lt-ltb}
 use Rattle.rules.specs.Choice.{if_then_else_}
 use Rattle.cells.specs.declared.free.Room.the-variants.{Enough, NoRoom, Damaged}
-use Rattle.cells.specs.Chains.{follow, walk, allBelow}
-use Rattle.cells.specs.Free.{freeCount, firstFree, sizeOf, portsOf, frameCells, roomFor, isFrame, canGiveBack}
-use Rattle.cells.proofs.Steps.{first-below, walk-below}
+use Rattle.cells.specs.Chains.{walk}
+use Rattle.cells.specs.Free.{freeCount, firstFree, wordOf, sizeOf, lastCell, roomFor, isFrame, canGiveBack}
+use Rattle.cells.proofs.Steps.{walk-in}
 
 -- ---- taking
 
@@ -23,50 +23,44 @@ three false b c e = let z : _≡_ {A = ℕ} 0 1 = cc in absurd (omega arith)
 pub record Taking (n k : ℕ) (l : List ℕ) : Type 0 where
   pub few : freeCount l ≤ n
   pub enough : k ≤ freeCount l
-  pub below : allBelow n (follow l k (firstFree l)) ≡ true
   pub first : firstFree l < n
 
-pub taking : (n k : ℕ) (l : List ℕ) → 1 ≤ k → roomFor n k l ≡ Enough → Taking n k l
+pub taking : (n k : ℕ) (l : List ℕ) → roomFor n k l ≡ Enough → Taking n k l
 unfolding roomFor
-taking n k l some e =
-    let held = three (leb (freeCount l) n) (leb k (freeCount l)) (allBelow n (follow l k (firstFree l))) e in
+taking n k l e =
+    let held = three (leb (freeCount l) n) (leb k (freeCount l)) (ltb (firstFree l) n) e in
     record {
       few = leb-true (freeCount l) n (held .0);
       enough = leb-true k (freeCount l) (held .1);
-      below = held .2;
-      first = first-below l k (firstFree l) some n (held .2);
+      first = ltb-true (firstFree l) n (held .2);
     }
 
 -- ---- giving back
 
-pub record Frame (n c : ℕ) (l : List ℕ) : Type 0 where
+pub record Frame (c : ℕ) (l : List ℕ) : Type 0 where
   pub some : 1 ≤ sizeOf l c
   pub few : sizeOf l c ≤ 52
-  pub waits : 1 ≤ portsOf l c
-  pub ports : portsOf l c ≤ 31
-  pub below : allBelow n (frameCells l c) ≡ true
-  pub last : walk l (sizeOf l c - 1) c < n
 
-pub frame : (n c : ℕ) (l : List ℕ) → isFrame n c l ≡ true → Frame n c l
+pub frame : (c : ℕ) (l : List ℕ) → isFrame c l ≡ true → Frame c l
 unfolding isFrame
-frame n c l e =
-    let a : Bool = leb 1 (sizeOf l c) in
-    let b : Bool = leb (sizeOf l c) 52 in
-    let d : Bool = leb 1 (portsOf l c) in
-    let f : Bool = leb (portsOf l c) 31 in
-    let all = and-eq-true-iff (a && b && d && f) (allBelow n (frameCells l c)) .0 e in
-    let three = and-eq-true-iff (a && b && d) f .0 (all .0) in
-    let two = and-eq-true-iff (a && b) d .0 (three .0) in
-    let one = and-eq-true-iff a b .0 (two .0) in
-    let some : 1 ≤ sizeOf l c = leb-true 1 (sizeOf l c) (one .0) in
-    record {
-      some = some;
-      few = leb-true (sizeOf l c) 52 (one .1);
-      waits = leb-true 1 (portsOf l c) (two .1);
-      ports = leb-true (portsOf l c) 31 (three .1);
-      below = all .1;
-      last = walk-below l n (sizeOf l c) c (sizeOf l c - 1) (omega arith) (all .1);
-    }
+frame c l e =
+    let two = and-eq-true-iff (leb 1 (sizeOf l c)) (leb (sizeOf l c) 52) .0 e in
+    record { some = leb-true 1 (sizeOf l c) (two .0); few = leb-true (sizeOf l c) 52 (two .1) }
+
+same-test : (a b : Bool) → (a ≡ true → b ≡ true) → (b ≡ true → a ≡ true) → a ≡ b
+same-test true b f g = sym (f refl)
+same-test false true f g = g refl
+same-test false false f g = refl
+
+-- one comparison of the frame word tells
+pub frame-range : (c : ℕ) (l : List ℕ) → (leb 32 (wordOf l c) && ltb (wordOf l c) 1696) ≡ isFrame c l
+unfolding isFrame
+frame-range c l =
+    ap₂ _&&_ (same-test (leb 32 (wordOf l c)) (leb 1 (sizeOf l c)) (λ e. le-leb 1 (sizeOf l c) (omega (arith, leb-true 32 (wordOf l c) e))) (λ e. le-leb 32 (wordOf l c) (omega (arith, leb-true 1 (sizeOf l c) e))))
+    (same-test (ltb (wordOf l c) 1696) (leb (sizeOf l c) 52) (λ e. le-leb (sizeOf l c) 52 (omega (arith, ltb-true (wordOf l c) 1696 e))) (λ e. lt-ltb (wordOf l c) 1696 (omega (arith, leb-true (sizeOf l c) 52 e))))
+
+pub last-in : (n c : ℕ) (l : List ℕ) → c < n → lastCell n l c < n
+last-in n c l h = walk-in n l (sizeOf l c - 1) c h
 
 pub record Giving (n c : ℕ) (l : List ℕ) : Type 0 where
   pub fits : freeCount l + sizeOf l c ≤ n

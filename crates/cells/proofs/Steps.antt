@@ -1,42 +1,43 @@
--- A step from a cell to its next, and the beginning of cells in range. Assumes nothing.
-use mathlib.Core.Path.{_≡_, refl}
-use mathlib.Core.Bool.{true, false}
+-- A step from a cell to its next: cells that are followed are below n, whatever their next words are. Assumes nothing.
+use mathlib.Core.Path.{_≡_, refl, ap, _∙_}
+use mathlib.Core.Bool.{true}
 use mathlib.Core.List.{List, _∷_}
 use Prim.Native.Nat.{ℕ, zero, suc, _-_, _≤_, _<_}
+use native.Mathlib.Decide.{decLt}
 use native.Mathlib.Omega.{arith}
-use borrow.Author.Tests.{lt-ltb, le-ltb}
-use Rattle.cells.specs.Chains.{next, follow, walk, allBelow}
-use Rattle.cells.proofs.Counts.{below-head, below-tail}
+use borrow.Author.Tests.{lt-ltb}
+use Rattle.layout.specs.Cells.{clamped}
+use Rattle.layout.proofs.Cells.{clamped-below, clamped-above}
+use Rattle.cells.specs.Chains.{nextIn, next, follow, walk, behind}
+use Rattle.cells.proofs.Counts.{allBelow}
 
-pub follow-cons : (l : List ℕ) (k c : ℕ) → 0 < k → follow l k c ≡ c ∷ follow l (k - 1) (next l c)
-follow-cons l zero c h = absurd (omega arith)
-follow-cons l (suc k) c h = let e : suc k - 1 ≡ k = omega arith in rw e
+pub clamped-in : (n c : ℕ) → 1 ≤ n → clamped n c < n
+clamped-in n c some =
+    elim (decLt c n) as (λ _. clamped n c < n) [
+      | yes h ↦ rw (clamped-below n c h) h
+      | no h ↦ let above : n ≤ c = omega arith in rw (clamped-above n c above) some
+    ]
 
-pub walk-cons : (l : List ℕ) (k c : ℕ) → 0 < k → walk l k c ≡ walk l (k - 1) (next l c)
-walk-cons l zero c h = absurd (omega arith)
-walk-cons l (suc k) c h = let e : suc k - 1 ≡ k = omega arith in rw e
+module _ (n : ℕ) (l : List ℕ) where
+  pub next-in : (c : ℕ) → 1 ≤ n → next n l c < n
+  next-in c some = clamped-in n (nextIn l c) some
 
-module _ (l : List ℕ) (k c : ℕ) (more : 0 < k) (n : ℕ) where
-  pub step : c < n → allBelow n (follow l (k - 1) (next l c)) ≡ allBelow n (follow l k c)
-  step h = rw (follow-cons l k c more, lt-ltb c n h)
+  pub follow-cons : (k c : ℕ) → 0 < k → follow n l k c ≡ c ∷ follow n l (k - 1) (next n l c)
+  follow-cons zero c h = absurd (omega arith)
+  follow-cons (suc k) c h = let e : suc k - 1 ≡ k = omega arith in rw e
 
-  pub stop : n ≤ c → false ≡ allBelow n (follow l k c)
-  stop h = rw (follow-cons l k c more, le-ltb c n h)
+  pub walk-cons : (k c : ℕ) → 0 < k → walk n l k c ≡ walk n l (k - 1) (next n l c)
+  walk-cons zero c h = absurd (omega arith)
+  walk-cons (suc k) c h = let e : suc k - 1 ≡ k = omega arith in rw e
 
-  pub first-below : allBelow n (follow l k c) ≡ true → c < n
-  first-below h = below-head n c (follow l (k - 1) (next l c)) (rw (follow-cons l k c more) at h)
+  pub walk-in : (k c : ℕ) → c < n → walk n l k c < n
+  walk-in zero c h = h
+  walk-in (suc k) c h = walk-in k (next n l c) (next-in c (omega arith))
 
-  pub rest-below : allBelow n (follow l k c) ≡ true → allBelow n (follow l (k - 1) (next l c)) ≡ true
-  rest-below h = below-tail n c (follow l (k - 1) (next l c)) (rw (follow-cons l k c more) at h)
+  pub follow-below : (k c : ℕ) → c < n → allBelow n (follow n l k c) ≡ true
+  follow-below zero c h = refl
+  follow-below (suc k) c h = rw (lt-ltb c n h) (follow-below k (next n l c) (next-in c (omega arith)))
 
--- a beginning of cells that are in range is in range, and so is the cell after fewer than all
-pub begin-below : (l : List ℕ) (n k c j : ℕ) → j ≤ k → allBelow n (follow l k c) ≡ true → allBelow n (follow l j c) ≡ true
-begin-below l n k c zero h b = refl
-begin-below l n zero c (suc j) h b = absurd (omega arith)
-begin-below l n (suc k) c (suc j) h b =
-    rw (lt-ltb c n (below-head n c (follow l k (next l c)) b)) (begin-below l n k (next l c) j (omega arith) (below-tail n c (follow l k (next l c)) b))
-
-pub walk-below : (l : List ℕ) (n k c j : ℕ) → j < k → allBelow n (follow l k c) ≡ true → walk l j c < n
-walk-below l n zero c j h b = absurd (omega arith)
-walk-below l n (suc k) c zero h b = below-head n c (follow l k (next l c)) b
-walk-below l n (suc k) c (suc j) h b = walk-below l n k (next l c) j (omega arith) (below-tail n c (follow l k (next l c)) b)
+  -- the last of more than one cell is the last of those after the first
+  pub behind-cons : (k c : ℕ) → 1 < k → behind n l k c ≡ behind n l (k - 1) (next n l c)
+  behind-cons k c h = ap (nextIn l) (walk-cons (k - 1) c (omega arith))

@@ -8,9 +8,9 @@ use native.Mathlib.Omega.{arith}
 use lib.ListN.{length, length-append}
 use lib.Dec.{eqb}
 use borrow.Author.Tests.{eq-eqb, ne-eqb}
-use Rattle.cells.specs.Chains.{allBelow, one, count}
+use Rattle.cells.specs.Chains.{one, count}
 use Rattle.cells.specs.Sound.{waitingCells, allWaiting}
-use Rattle.cells.proofs.Counts.{below-head, below-tail}
+use Rattle.cells.proofs.Counts.{allBelow, below-head, below-tail}
 
 -- f 0 + .. + f (n - 1)
 unfoldable pub total : (ℕ → ℕ) → ℕ → ℕ
@@ -62,11 +62,11 @@ length-total n (x ∷ xs) b =
     )
 
 -- a frame's cells are no more than all
-pub waiting-few : (l : List ℕ) (s m : ℕ) → s < m → length (waitingCells l s) ≤ length (allWaiting l m)
+pub waiting-few : (n : ℕ) (l : List ℕ) (s m : ℕ) → s < m → length (waitingCells n l s) ≤ length (allWaiting n l m)
 unfolding allWaiting
-waiting-few l s zero h = absurd (omega arith)
-waiting-few l s (suc m) h =
-    elim (ℕ-discrete s m) as (λ _. length (waitingCells l s) ≤ length (allWaiting l (suc m))) [
+waiting-few n l s zero h = absurd (omega arith)
+waiting-few n l s (suc m) h =
+    elim (ℕ-discrete s m) as (λ _. length (waitingCells n l s) ≤ length (allWaiting n l (suc m))) [
       | yes e ↦ rw e (simp length-append (omega arith))
-      | no e ↦ simp length-append (omega (arith, waiting-few l s m (omega arith)))
+      | no e ↦ simp length-append (omega (arith, waiting-few n l s m (omega arith)))
     ]

@@ -5,41 +5,48 @@ use Prim.Native.Nat.{ℕ}
 use native.Mathlib.Omega.{arith}
 use Rattle.layout.specs.Same.{CellsSame}
 use Rattle.cells.specs.Chains.{follow, count}
-use Rattle.cells.specs.Free.{freeCount, firstFree, sizeOf, freeCells, frameCells, roomFor, isFrame, canGiveBack}
+use Rattle.cells.specs.Free.{freeCount, firstFree, sizeOf, portsOf, freeCells, frameCells, roomFor, isFrame, canGiveBack}
 use Rattle.cells.specs.Sound.{waitingCells, Sound}
 use Rattle.cells.proofs.Paths.{follow-same}
+use Rattle.cells.proofs.Words.{word-size, word-ports}
 use Rattle.cells.proofs.Sums.{all-same}
 use Rattle.cells.proofs.Kept.{waiting-same}
 
 module _ {l m : List ℕ} (same : CellsSame l m) where
-  pub same-follow : (k c : ℕ) → follow m k c ≡ follow l k c
-  same-follow = follow-same l m (same .next)
+  pub same-size : (c : ℕ) → sizeOf m c ≡ sizeOf l c
+  same-size c = word-size l m c (same .frame c)
 
-  pub same-free : freeCells m ≡ freeCells l
-  same-free = ap₂ (follow m) (same .freeCount) (same .firstFree) ∙ same-follow (freeCount l) (firstFree l)
+  pub same-ports : (c : ℕ) → portsOf m c ≡ portsOf l c
+  same-ports c = word-ports l m c (same .frame c)
 
-  pub same-frame : (c : ℕ) → frameCells m c ≡ frameCells l c
-  same-frame c = ap (λ (k : ℕ). follow m k c) (same .size c) ∙ same-follow (sizeOf l c) c
+  pub same-follow : (n k c : ℕ) → follow n m k c ≡ follow n l k c
+  same-follow n = follow-same n l m (same .next)
 
-  pub same-waiting : (c : ℕ) → waitingCells m c ≡ waitingCells l c
-  same-waiting c = waiting-same l m c (same .ports c) (same-frame c)
+  pub same-free : (n : ℕ) → freeCells n m ≡ freeCells n l
+  same-free n = ap₂ (follow n m) (same .freeCount) (same .firstFree) ∙ same-follow n (freeCount l) (firstFree l)
+
+  pub same-frame : (n c : ℕ) → frameCells n m c ≡ frameCells n l c
+  same-frame n c = ap (λ (k : ℕ). follow n m k c) (same-size c) ∙ same-follow n (sizeOf l c) c
+
+  pub same-waiting : (n c : ℕ) → waitingCells n m c ≡ waitingCells n l c
+  same-waiting n c = waiting-same n l m c (same-ports c) (same-frame n c)
 
   pub same-room : (n k : ℕ) → roomFor n k m ≡ roomFor n k l
   unfolding roomFor
-  same-room n k = rw (same .freeCount, same .firstFree, same-follow k (firstFree l))
+  same-room n k = rw (same .freeCount, same .firstFree)
 
-  pub same-is-frame : (n c : ℕ) → isFrame n c m ≡ isFrame n c l
+  pub same-is-frame : (c : ℕ) → isFrame c m ≡ isFrame c l
   unfolding isFrame
-  same-is-frame n c = rw (same-frame c, same .size c, same .ports c)
+  same-is-frame c = rw (same-size c)
 
   pub same-can-give-back : (n c : ℕ) → canGiveBack n c m ≡ canGiveBack n c l
   unfolding canGiveBack
-  same-can-give-back n c = rw (same .freeCount, same .size c, same .firstFree)
+  same-can-give-back n c = rw (same .freeCount, same-size c, same .firstFree)
 
   pub same-sound : {n : ℕ} → Sound n l → Sound n m
   same-sound {n} sound =
       record {
-        once = λ c. omega (arith, ap (count c) same-free, ap (count c) (all-same l m n (λ s h. same-waiting s)), sound .once c);
+        once = λ c. omega (arith, ap (count c) (same-free n), ap (count c) (all-same n l m n (λ s h. same-waiting n s)), sound .once c);
         nexts = λ c h. rw (same .next c) (sound .nexts c h);
         first = rw (same .firstFree) (sound .first);
       }

@@ -3,61 +3,46 @@ use Prim.Native.Nat.{ℕ, _+_, _*_, _/_, _%_}
 use mathlib.Core.Bool.{Bool, _&&_}
 use mathlib.Core.List.{List, [], _∷_}
 use lib.ListN.{getD}
-use lib.Dec.{leb}
-use Rattle.rules.specs.Numbers.{lastVid}
+use lib.Dec.{leb, ltb}
+use Rattle.rules.specs.Choice.{if_then_else_}
 use Rattle.rules.specs.Cells.{shortest, longest}
-use Rattle.rules.specs.Tags.{twoBytesAt}
-use Rattle.rules.specs.Arguments.{OperationNumbers}
+use Rattle.rules.specs.Operations.{Operation}
+use Rattle.rules.specs.Settings.{noOperation}
+use Rattle.rules.specs.Arguments.{operationOf}
+use Rattle.packed.specs.Operations.{operationIn, isStoredWord, isExempt}
 use Rattle.cells.specs.declared.stored.StoredHeader.{StoredHeader}
 
+-- two bytes of length, two of the default header, four of the operation, each low byte first
 unfoldable pub storedBytes : StoredHeader → List ℕ
 storedBytes h =
-    h .length / 256
-    ∷ h .length % 256
-    ∷ h .default / 256
+    h .length % 256
+    ∷ h .length / 256
     ∷ h .default % 256
-    ∷ h .operation
-    ∷ h .exempt
-    ∷ h .header / 256
-    ∷ h .header % 256
+    ∷ h .default / 256
+    ∷ h .operation % 256
+    ∷ h .operation / 256 % 256
+    ∷ h .operation / 65536 % 256
+    ∷ h .operation / 16777216
     ∷ []
 
 unfoldable pub storedOf : List ℕ → StoredHeader
 storedOf bytes =
     record {
-      length = twoBytesAt bytes 0;
-      default = twoBytesAt bytes 2;
-      operation = getD bytes 4 0;
-      exempt = getD bytes 5 0;
-      header = twoBytesAt bytes 6;
+      length = getD bytes 0 0 + getD bytes 1 0 * 256;
+      default = getD bytes 2 0 + getD bytes 3 0 * 256;
+      operation = getD bytes 4 0 + getD bytes 5 0 * 256 + getD bytes 6 0 * 65536 + getD bytes 7 0 * 16777216;
     }
 
--- PCP and DEI of a header, and an operation's type, are in range whatever the bytes
+-- the default header from 16 to 4095 · 16 - 1: VID 1 to 4,094 stands on top of it
 unfoldable pub storedInRange : StoredHeader → Bool
 storedInRange h =
     leb shortest (h .length)
     && leb (h .length) longest
-    && leb 1 (h .default % 4096)
-    && leb (h .default % 4096) lastVid
-    && leb (h .operation % 8) 4
-    && leb (h .operation / 16 % 4) 2
-    && leb (h .operation / 64) 2
-    && leb (h .exempt) 1
-    && leb (h .header % 4096) lastVid
+    && leb 16 (h .default)
+    && ltb (h .default) 65520
+    && isStoredWord (h .operation)
 
--- ---- the VLAN operation
+-- ---- the VLAN operation; that of a BPDU, on which none acts, is no operation
 
-abbrev pub operationByte : ℕ → ℕ → ℕ → ℕ → ℕ
-operationByte kind type vidSource pcpSource = kind + 8 * type + 16 * vidSource + 64 * pcpSource
-
-unfoldable pub storedOperation : StoredHeader → OperationNumbers
-storedOperation h =
-    record {
-      kind = h .operation % 8;
-      type = h .operation / 8 % 2;
-      vidSource = h .operation / 16 % 4;
-      pcpSource = h .operation / 64;
-      vid = h .header % 4096;
-      pcp = h .header / 8192;
-      dei = h .header / 4096 % 2;
-    }
+unfoldable pub storedOperation : StoredHeader → Operation
+storedOperation h = if isExempt (h .operation) then noOperation else operationOf (operationIn (h .operation))

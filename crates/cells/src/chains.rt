@@ -1,42 +1,30 @@
 // Cells one after another by their next words.
 ghost use mathlib.Core.Path.{_≡_};
-ghost use mathlib.Core.Bool.{true};
-ghost use Prim.Native.Nat.{_≤_};
+ghost use Prim.Native.Nat.{_≤_, _<_};
 ghost use lib.ListN.{length};
 ghost use Rattle.layout.specs.Places.{linkWords};
 ghost use Rattle.cells.specs.Chains as spec;
 use layout::CELL_STRIDE;
 use layout::NEXT;
+use layout::below;
 
-// Is each of the k cells from c on below n?
-pub fn all_below(links: &[u32], n: usize, c: u32, k: usize) -> bool
-    requires { ⌜ linkWords n ≤ length (now links) ⌝ }
-    ensures { λ r. ⌜ r ≡ spec.allBelow n (spec.follow (now (links .entry)) k c) ⌝ }
+// The cell after cell c.
+pub fn next(links: &[u32], n: usize, c: usize) -> usize
+    requires { ⌜ (linkWords n ≤ length (now links)) × (c < n) ⌝ }
+    ensures { λ r. ⌜ (r ≡ spec.next n (now (links .entry)) c) × (r < n) ⌝ }
 {
-    let mut at = c as usize;
-    let mut rest = k;
-    while 0 < rest {
-        if at < n {
-            at = links[NEXT + CELL_STRIDE * at] as usize;
-            rest -= 1;
-        } else {
-            return false;
-        }
-    }
-    true
+    below(links[NEXT + CELL_STRIDE * c], n)
 }
 
 // The cell after the k cells from c on.
-pub fn walk(links: &[u32], n: usize, c: u32, k: usize) -> u32
-    requires { ⌜ linkWords n ≤ length (now links) ⌝ }
-    requires { ⌜ spec.allBelow n (spec.follow (now links) k c) ≡ true ⌝ }
-    ensures { λ r. ⌜ r ≡ spec.walk (now (links .entry)) k c ⌝ }
+pub fn walk(links: &[u32], n: usize, c: usize, k: u32) -> usize
+    requires { ⌜ (linkWords n ≤ length (now links)) × (c < n) ⌝ }
+    ensures { λ r. ⌜ (r ≡ spec.walk n (now (links .entry)) k c) × (r < n) ⌝ }
 {
     let mut at = c;
     let mut rest = k;
     while 0 < rest {
-        let i = at as usize;
-        at = links[NEXT + CELL_STRIDE * i];
+        at = next(links, n, at);
         rest -= 1;
     }
     at

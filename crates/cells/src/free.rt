@@ -4,16 +4,17 @@ ghost use mathlib.Core.Bool.{true};
 ghost use Prim.Native.Nat.{_≤_, _<_};
 ghost use lib.ListN.{length, set};
 ghost use Rattle.rules.specs.Cells.{mostCells};
-ghost use Rattle.layout.specs.Places.{linkWords, portsWord};
+ghost use Rattle.layout.specs.Places.{linkWords, frameWord};
+ghost use Rattle.cells.specs.Chains.{behind};
 ghost use Rattle.cells.specs.Free as spec;
-use crate::chains::all_below;
 use crate::chains::walk;
 use layout::CELL_STRIDE;
 use layout::FIRST_FREE;
+use layout::FRAME;
+use layout::FRAME_END;
 use layout::FREE_COUNT;
 use layout::NEXT;
-use layout::PORTS;
-use layout::SIZE;
+use layout::SIZE_UNIT;
 
 // Is there room for a frame?
 pub enum Room {
@@ -34,43 +35,46 @@ pub fn can_take(links: &[u32], n: usize, k: usize) -> Room
     if free < k {
         return Room::NoRoom;
     }
-    let first = links[FIRST_FREE];
-    if all_below(links, n, first, k) {
+    let first = links[FIRST_FREE] as usize;
+    if first < n {
         Room::Enough
     } else {
         Room::Damaged
     }
 }
 
-// The first k free cells become those of a frame that waits at ports.
-pub fn take_cells(links: &mut [u32], n: usize, k: usize, ports: u32) -> u32
-    requires { ⌜ (linkWords n ≤ length (now links)) × (1 ≤ k) × (spec.roomFor n k (now links) ≡ Room.Enough) ⌝ }
-    ensures { λ r. ⌜ (r, now (links .exit)) ≡ spec.takeCells k ports (now (links .entry)) ⌝ }
+// The first k free cells become those of a frame that waits at ports. The next word of the last of them is `after`.
+pub fn take_cells(links: &mut [u32], n: usize, k: usize, ports: u32, after: u32)
+    requires { ⌜ (linkWords n ≤ length (now links)) × (k ≤ 52) × (ports < 32)
+        × (spec.roomFor n k (now links) ≡ Room.Enough) ⌝ }
+    requires { ⌜ after ≡ behind n (now links) k (spec.firstFree (now links)) ⌝ }
+    ensures { λ _. ⌜ now (links .exit) ≡ spec.taken n k ports (now (links .entry)) ⌝ }
 {
-    let free = links[FREE_COUNT] as usize;
+    let count = k as u32;
+    let free = links[FREE_COUNT];
     let first = links[FIRST_FREE];
-    let after = walk(links, n, first, k);
-    links[FREE_COUNT] = (free - k) as u32;
-    links[FIRST_FREE] = after;
     let i = first as usize;
-    links[SIZE + CELL_STRIDE * i] = k as u32;
-    links[PORTS + CELL_STRIDE * i] = ports;
-    first
+    links[FREE_COUNT] = free - count;
+    links[FIRST_FREE] = after;
+    links[FRAME + CELL_STRIDE * i] = ports + SIZE_UNIT * count;
 }
 
-// Are size, ports and the cells of the frame whose first cell is c in range?
-pub fn is_frame(links: &[u32], n: usize, c: u32) -> bool
+// The frame word of the frame whose first cell is c.
+pub fn word(links: &[u32], n: usize, c: u32) -> u32
     requires { ⌜ (linkWords n ≤ length (now links)) × (c < n) ⌝ }
-    ensures { λ r. ⌜ r ≡ spec.isFrame n c (now (links .entry)) ⌝ }
+    ensures { λ r. ⌜ r ≡ spec.wordOf (now (links .entry)) c ⌝ }
 {
     let i = c as usize;
-    let size = links[SIZE + CELL_STRIDE * i];
-    let ports = links[PORTS + CELL_STRIDE * i];
-    if (1 <= size) & (size <= 52) & (1 <= ports) & (ports <= 31) {
-        all_below(links, n, c, size as usize)
-    } else {
-        false
-    }
+    links[FRAME + CELL_STRIDE * i]
+}
+
+// Is it in range: a size of 1 to 52 cells?
+pub fn is_frame(links: &[u32], n: usize, c: u32) -> bool
+    requires { ⌜ (linkWords n ≤ length (now links)) × (c < n) ⌝ }
+    ensures { λ r. ⌜ r ≡ spec.isFrame c (now (links .entry)) ⌝ }
+{
+    let w = word(links, n, c);
+    (SIZE_UNIT <= w) & (w < FRAME_END)
 }
 
 // Do the cells of that frame fit beside the free ones?
@@ -78,53 +82,43 @@ pub fn can_give_back(links: &[u32], n: usize, c: u32) -> bool
     requires { ⌜ (linkWords n ≤ length (now links)) × (c < n) ⌝ }
     ensures { λ r. ⌜ r ≡ spec.canGiveBack n c (now (links .entry)) ⌝ }
 {
-    let i = c as usize;
-    let size = links[SIZE + CELL_STRIDE * i] as usize;
+    let size = (word(links, n, c) / SIZE_UNIT) as usize;
     let free = links[FREE_COUNT] as usize;
     let first = links[FIRST_FREE] as usize;
     (free + size <= n) & (first < n)
 }
 
-// The cells of that frame become the first free ones.
-pub fn give_back(links: &mut [u32], n: usize, c: u32)
-    requires { ⌜ (linkWords n ≤ length (now links)) × (n ≤ mostCells) × (c < n) ⌝ }
-    requires { ⌜ (spec.isFrame n c (now links) ≡ true) × (spec.canGiveBack n c (now links) ≡ true) ⌝ }
-    ensures { λ _. ⌜ now (links .exit) ≡ spec.givenBack c (now (links .entry)) ⌝ }
+// The last cell of that frame.
+pub fn last(links: &[u32], n: usize, c: u32) -> usize
+    requires { ⌜ (linkWords n ≤ length (now links)) × (c < n) × (spec.isFrame c (now links) ≡ true) ⌝ }
+    ensures { λ r. ⌜ (r ≡ spec.lastCell n (now (links .entry)) c) × (r < n) ⌝ }
 {
-    let i = c as usize;
-    let size = links[SIZE + CELL_STRIDE * i] as usize;
-    let free = links[FREE_COUNT] as usize;
+    let size = word(links, n, c) / SIZE_UNIT;
+    walk(links, n, c as usize, size - 1)
+}
+
+// The cells of that frame, whose last is `last`, become the first free ones.
+pub fn give_back(links: &mut [u32], n: usize, c: u32, last: usize)
+    requires { ⌜ (linkWords n ≤ length (now links)) × (n ≤ mostCells) × (c < n)
+        × (spec.canGiveBack n c (now links) ≡ true) ⌝ }
+    requires { ⌜ last ≡ spec.lastCell n (now links) c ⌝ }
+    ensures { λ _. ⌜ now (links .exit) ≡ spec.givenBack n c (now (links .entry)) ⌝ }
+{
+    let size = word(links, n, c) / SIZE_UNIT;
+    let free = links[FREE_COUNT];
     let first = links[FIRST_FREE];
-    let last = walk(links, n, c, size - 1) as usize;
+    let i = c as usize;
     links[NEXT + CELL_STRIDE * last] = first;
-    links[FREE_COUNT] = (free + size) as u32;
+    links[FREE_COUNT] = free + size;
     links[FIRST_FREE] = c;
-    links[PORTS + CELL_STRIDE * i] = 0;
+    links[FRAME + CELL_STRIDE * i] = SIZE_UNIT * size;
 }
 
-// How many cells the frame whose first cell is c has.
-pub fn size(links: &[u32], n: usize, c: u32) -> u32
+// The frame word.
+pub fn set_word(links: &mut [u32], n: usize, c: u32, word: u32)
     requires { ⌜ (linkWords n ≤ length (now links)) × (c < n) ⌝ }
-    ensures { λ r. ⌜ r ≡ spec.sizeOf (now (links .entry)) c ⌝ }
+    ensures { λ _. ⌜ now (links .exit) ≡ set (now (links .entry)) (frameWord c) word ⌝ }
 {
     let i = c as usize;
-    links[SIZE + CELL_STRIDE * i]
-}
-
-// The ports where it still waits.
-pub fn ports(links: &[u32], n: usize, c: u32) -> u32
-    requires { ⌜ (linkWords n ≤ length (now links)) × (c < n) ⌝ }
-    ensures { λ r. ⌜ r ≡ spec.portsOf (now (links .entry)) c ⌝ }
-{
-    let i = c as usize;
-    links[PORTS + CELL_STRIDE * i]
-}
-
-// The ports of mask are those where it still waits.
-pub fn set_ports(links: &mut [u32], n: usize, c: u32, mask: u32)
-    requires { ⌜ (linkWords n ≤ length (now links)) × (c < n) ⌝ }
-    ensures { λ _. ⌜ now (links .exit) ≡ set (now (links .entry)) (portsWord c) mask ⌝ }
-{
-    let i = c as usize;
-    links[PORTS + CELL_STRIDE * i] = mask;
+    links[FRAME + CELL_STRIDE * i] = word;
 }

@@ -1,53 +1,47 @@
 // What is stored with a frame: its 8 bytes, and their ranges.
 ghost use mathlib.Core.Path.{_≡_};
-ghost use Prim.Native.Nat.{_+_, _*_, _/_, _%_, _≤_, _<_};
+ghost use Prim.Native.Nat.{_+_, _*_, _≤_, _<_};
 ghost use lib.ListN.{length};
+ghost use lib.Seq.{sets};
 ghost use Rattle.layout.specs.Places.{cellBytes};
 ghost use Rattle.cells.specs.Bytes.{headerIn};
-ghost use Rattle.cells.specs.Stored.{storedBytes, storedOf, storedInRange, operationByte};
+ghost use Rattle.cells.specs.Stored.{storedBytes, storedOf, storedInRange};
 use layout::CELL_SIZE;
+use packed::operation::is_stored_word;
 
-// Length, the arrival port's default header, the VLAN operation but for its header, 1 for a frame on which no operation acts, and
-// the operation's header. A header is PCP · 8192 + DEI · 4096 + VID.
+// Length, the arrival port's default header as its word has it (from DEI on), and the word of the VLAN's operation.
+// The first word past the range of operations stands for a frame on which none acts.
 pub struct StoredHeader {
     pub length: u16,
     pub default: u16,
-    pub operation: u8,
-    pub exempt: u8,
-    pub header: u16,
+    pub operation: u32,
 }
 
-fn high(x: u16) -> u8
-    ensures { λ r. ⌜ r ≡ x / 256 ⌝ }
+// Low bytes first, so that the compiler stores each field whole.
+pub fn write_header(cells: &mut [u8], at: usize, h: StoredHeader)
+    requires { ⌜ at + 8 ≤ length (now cells) ⌝ }
+    ensures { λ _. ⌜ now (cells .exit) ≡ sets (now (cells .entry)) at (storedBytes h) ⌝ }
 {
-    (x / 256) as u8
+    cells[at] = (h.length % 256) as u8;
+    cells[at + 1] = (h.length / 256) as u8;
+    cells[at + 2] = (h.default % 256) as u8;
+    cells[at + 3] = (h.default / 256) as u8;
+    cells[at + 4] = (h.operation % 256) as u8;
+    cells[at + 5] = (h.operation / 256 % 256) as u8;
+    cells[at + 6] = (h.operation / 65536 % 256) as u8;
+    cells[at + 7] = (h.operation / 16777216) as u8;
 }
 
-fn low(x: u16) -> u8
-    ensures { λ r. ⌜ r ≡ x % 256 ⌝ }
+fn two_bytes(low: u8, high: u8) -> u16
+    ensures { λ r. ⌜ r ≡ low + high * 256 ⌝ }
 {
-    (x % 256) as u8
+    (low as u16) + (high as u16) * 256
 }
 
-fn two_bytes(high: u8, low: u8) -> u16
-    ensures { λ r. ⌜ r ≡ high * 256 + low ⌝ }
+fn four_bytes(first: u8, second: u8, third: u8, fourth: u8) -> u32
+    ensures { λ r. ⌜ r ≡ first + second * 256 + third * 65536 + fourth * 16777216 ⌝ }
 {
-    (high as u16) * 256 + (low as u16)
-}
-
-pub fn header_bytes(h: StoredHeader) -> [u8; 8]
-    ensures { λ r. ⌜ r ≡ storedBytes h ⌝ }
-{
-    [
-        high(h.length),
-        low(h.length),
-        high(h.default),
-        low(h.default),
-        h.operation,
-        h.exempt,
-        high(h.header),
-        low(h.header),
-    ]
+    (first as u32) + (second as u32) * 256 + (third as u32) * 65536 + (fourth as u32) * 16777216
 }
 
 // The stored header of the frame whose first cell is c.
@@ -59,30 +53,21 @@ pub fn read_header(cells: &[u8], n: usize, c: u32) -> StoredHeader
     StoredHeader {
         length: two_bytes(cells[a], cells[a + 1]),
         default: two_bytes(cells[a + 2], cells[a + 3]),
-        operation: cells[a + 4],
-        exempt: cells[a + 5],
-        header: two_bytes(cells[a + 6], cells[a + 7]),
+        operation: four_bytes(cells[a + 4], cells[a + 5], cells[a + 6], cells[a + 7]),
     }
 }
+
+// VID 1 to 4,094 stands on top of the default header: 16, and 4095 * 16.
+const DEFAULT_START: u16 = 16;
+
+const DEFAULT_END: u16 = 65520;
 
 pub fn in_range(h: StoredHeader) -> bool
     ensures { λ r. ⌜ r ≡ storedInRange h ⌝ }
 {
     (60 <= h.length)
         & (h.length <= 4083)
-        & (1 <= h.default % 4096)
-        & (h.default % 4096 <= 4094)
-        & (h.operation % 8 <= 4)
-        & (h.operation / 16 % 4 <= 2)
-        & (h.operation / 64 <= 2)
-        & (h.exempt <= 1)
-        & (h.header % 4096 <= 4094)
-}
-
-// Byte 4, from the numbers of an operation's kind, its type, its VID source and its PCP source.
-pub fn operation_byte(kind: u32, tag: u32, vid: u32, pcp: u32) -> u8
-    requires { ⌜ (kind ≤ 4) × (tag ≤ 1) × (vid ≤ 2) × (pcp ≤ 2) ⌝ }
-    ensures { λ r. ⌜ r ≡ operationByte kind tag vid pcp ⌝ }
-{
-    (kind + 8 * tag + 16 * vid + 64 * pcp) as u8
+        & (DEFAULT_START <= h.default)
+        & (h.default < DEFAULT_END)
+        & is_stored_word(h.operation)
 }

@@ -1,4 +1,5 @@
--- A copy leaves a port: what is tested before, and what is written to link memory, in this order. Assumes nothing: these are definitions.
+-- A copy leaves a port: what is tested before, and what is written to link memory, in this order. Assumes nothing:
+-- these are definitions.
 use Prim.Native.Nat.{ℕ, _-_, _^_}
 use mathlib.Core.Bool.{Bool, true, _&&_}
 use mathlib.Core.List.{List}
@@ -7,26 +8,30 @@ use lib.ListN.{set}
 use Rattle.rules.specs.Choice.{if_then_else_}
 use Rattle.rules.specs.Arguments.{bit}
 use Rattle.rules.specs.Counters.{Counter, counterNumber}
-use Rattle.layout.specs.Places.{portsWord, ringOfQueue}
-use Rattle.cells.specs.Free.{portsOf, isFrame, canGiveBack, givenBack}
-use Rattle.queues.specs.Rings.{popped}
+use Rattle.layout.specs.Places.{frameWord}
+use Rattle.cells.specs.Free.{wordOf, portsOf, isFrame, canGiveBack, givenBack}
+use Rattle.queues.specs.Lists.{poppedAt}
 use Rattle.words.specs.Counters.{bumped}
 
 -- the frame whose first cell is c waits at this port alone
 unfoldable pub isLast : ℕ → ℕ → List ℕ → Bool
 isLast port c links = eqb (portsOf links c) (2 ^ port)
 
--- "ports must have this port's bit"; the free cells are met "if this is the last copy"
+-- the free cells are met "if this is the last copy"
+unfoldable pub hasRoom : ℕ → ℕ → ℕ → List ℕ → Bool
+hasRoom n port c links = if isLast port c links then canGiveBack n c links else true
+
+-- "ports must have this port's bit"
 unfoldable pub canLeave : ℕ → ℕ → ℕ → List ℕ → Bool
 canLeave n port c links =
     ltb c n
-    && (isFrame n c links && (bit (portsOf links c) port && (if isLast port c links then canGiveBack n c links else true)))
+    && (isFrame c links && (bit (portsOf links c) port && hasRoom n port c links))
 
 -- "its cells are free when its last copy is sent or drained"
-unfoldable pub departed : ℕ → ℕ → List ℕ → List ℕ
-departed port c links =
-    if isLast port c links then givenBack c links else set links (portsWord c) (portsOf links c - 2 ^ port)
+unfoldable pub departed : ℕ → ℕ → ℕ → List ℕ → List ℕ
+departed n port c links =
+    if isLast port c links then givenBack n c links else set links (frameWord c) (wordOf links c - 2 ^ port)
 
--- its entry leaves the queue, and its port counts it
+-- the frame, which is its queue's oldest, leaves the queue, and its port counts it
 unfoldable pub left : ℕ → ℕ → ℕ → Counter → List ℕ → List ℕ
-left n port queue counter links = bumped port (counterNumber counter) (popped n (ringOfQueue port queue) links)
+left port queue c counter links = bumped port (counterNumber counter) (poppedAt port queue c links)

@@ -5,68 +5,53 @@ ghost use Prim.Native.Nat.{_≤_, _<_};
 ghost use lib.ListN.{length};
 ghost use Rattle.rules.specs.Cells.{mostCells};
 ghost use Rattle.layout.specs.Places.{linkWords};
-ghost use Rattle.queues.specs.Rings.{oldestPlace, countOf, ringOf};
 ghost use Rattle.departures.specs.Draining as spec;
 use crate::leaving::DRAINED;
 use crate::leaving::can_leave;
 use crate::leaving::depart;
 use crate::leaving::leave;
-use queues::Waiting;
 
-// Can every copy of a ring leave?
-fn all_can_leave(links: &[u32], n: usize, port: u32, ring: usize) -> bool
-    requires { ⌜ (linkWords n ≤ length (now links)) × (port < 5) × (ring < 20) ⌝ }
-    requires { ⌜ (oldestPlace (now links) ring < n) × (countOf (now links) ring ≤ n) ⌝ }
-    ensures { λ r. ⌜ r ≡ spec.allCanLeave n port (now (links .entry)) (ringOf n (now (links .entry)) ring) ⌝ }
+// Can every copy of a queue leave, as they are read: the oldest first, to the youngest, at most n?
+fn all_can_leave(links: &[u32], n: usize, port: u32, queue: u32) -> bool
+    requires { ⌜ (linkWords n ≤ length (now links)) × (1 ≤ n) × (n ≤ mostCells) × (port < 5) × (queue < 4) ⌝ }
+    ensures { λ r. ⌜ r ≡ spec.allFromOldest n port queue (now (links .entry)) ⌝ }
 {
-    let count = queues::count(links, n, ring) as usize;
-    let mut i = 0;
-    while i < count {
-        let c = queues::entry(links, n, ring, i);
-        if can_leave(links, n, port, c) {
-            i += 1;
-        } else {
+    let p = port as usize;
+    let mut c = queues::oldest(links, n, p, queue);
+    let mut rest = n;
+    while 0 < rest {
+        if !can_leave(links, n, port, c as u32) {
             return false;
         }
+        if queues::is_youngest(links, p, queue, c) {
+            return true;
+        }
+        c = queues::behind(links, n, p, c);
+        rest -= 1;
     }
     true
 }
 
-// The same with the ring's own words.
-fn can_drain(links: &[u32], n: usize, port: u32, queue: usize) -> bool
-    requires { ⌜ (linkWords n ≤ length (now links)) × (port < 5) × (queue < 4) ⌝ }
+fn can_drain(links: &[u32], n: usize, port: u32, queue: u32) -> bool
+    requires { ⌜ (linkWords n ≤ length (now links)) × (1 ≤ n) × (n ≤ mostCells) × (port < 5) × (queue < 4) ⌝ }
     ensures { λ r. ⌜ r ≡ spec.canDrain n port queue (now (links .entry)) ⌝ }
 {
-    let ring = 4 * (port as usize) + queue;
-    let first = queues::oldest(links, n, ring);
-    match first {
-        Waiting::First(_) => all_can_leave(links, n, port, ring),
-        Waiting::Nothing => true,
-        Waiting::Damaged => false,
+    if queues::waits(links, port as usize, queue) {
+        return all_can_leave(links, n, port, queue);
     }
+    true
 }
 
 // All that the drain of a port meets, on memory as it came.
 pub fn can_drain_all(links: &[u32], n: usize, port: u32) -> bool
-    requires { ⌜ (linkWords n ≤ length (now links)) × (port < 5) ⌝ }
+    requires { ⌜ (linkWords n ≤ length (now links)) × (1 ≤ n) × (n ≤ mostCells) × (port < 5) ⌝ }
     ensures { λ r. ⌜ r ≡ spec.canDrainAll n port (now (links .entry)) ⌝ }
 {
-    can_drain(links, n, port, 3)
+    queues::in_range(links, port as usize)
+        & can_drain(links, n, port, 3)
         & can_drain(links, n, port, 2)
         & can_drain(links, n, port, 1)
         & can_drain(links, n, port, 0)
-}
-
-// How many copies wait at a port.
-pub fn copies(links: &[u32], n: usize, port: u32) -> u32
-    requires { ⌜ (linkWords n ≤ length (now links)) × (n ≤ mostCells) × (port < 5) × (spec.canDrainAll n port (now links) ≡ true) ⌝ }
-    ensures { λ r. ⌜ r ≡ spec.copies port (now (links .entry)) ⌝ }
-{
-    let ring = 4 * (port as usize);
-    queues::count(links, n, ring + 3)
-        + queues::count(links, n, ring + 2)
-        + queues::count(links, n, ring + 1)
-        + queues::count(links, n, ring)
 }
 
 // The test is made anew: on damaged memory an earlier copy may have changed the frame's words.
@@ -80,39 +65,42 @@ fn drop_copy(links: &mut [u32], n: usize, port: u32, c: u32)
 }
 
 // The oldest copy of a queue leaves.
-fn drain_one(links: &mut [u32], n: usize, port: u32, queue: usize)
-    requires { ⌜ (linkWords n ≤ length (now links)) × (n ≤ mostCells) × (port < 5) × (queue < 4) ⌝ }
+fn drain_one(links: &mut [u32], n: usize, port: u32, queue: u32)
+    requires { ⌜ (linkWords n ≤ length (now links)) × (1 ≤ n) × (n ≤ mostCells) × (port < 5) × (queue < 4) ⌝ }
     ensures { λ _. ⌜ now (links .exit) ≡ spec.drainOne n port queue (now (links .entry)) ⌝ }
 {
     let p = port as usize;
-    let ring = 4 * p + queue;
-    let first = queues::oldest(links, n, ring);
-    let Waiting::First(c) = first else {
-        return;
-    };
+    let c = queues::oldest(links, n, p, queue) as u32;
     drop_copy(links, n, port, c);
-    leave(links, n, p, ring, DRAINED);
+    leave(links, n, p, queue, c, DRAINED);
 }
 
-// Every copy of a queue, oldest first.
-fn drain_queue(links: &mut [u32], n: usize, port: u32, queue: usize)
-    requires { ⌜ (linkWords n ≤ length (now links)) × (n ≤ mostCells) × (port < 5) × (queue < 4) ⌝ }
-    ensures { λ _. ⌜ now (links .exit) ≡ spec.drainQueue n port queue (now (links .entry)) ⌝ }
+// Every copy of a queue, oldest first: turns while the queue waits, at most n. Answers how many.
+fn drain_queue(links: &mut [u32], n: usize, port: u32, queue: u32) -> u32
+    requires { ⌜ (linkWords n ≤ length (now links)) × (1 ≤ n) × (n ≤ mostCells) × (port < 5) × (queue < 4) ⌝ }
+    ensures { λ r. ⌜ (r, now (links .exit)) ≡ spec.drainedQueue n port queue (now (links .entry)) ⌝ }
+    ensures { λ r. ⌜ r ≤ mostCells ⌝ }
 {
-    let mut rest = queues::count(links, n, 4 * (port as usize) + queue);
-    while 0 < rest {
+    let most = n as u32;
+    let mut turn = 0;
+    while turn < most {
+        if !queues::waits(links, port as usize, queue) {
+            return turn;
+        }
         drain_one(links, n, port, queue);
-        rest -= 1;
+        turn += 1;
     }
+    turn
 }
 
-// Every queue of the port, from 3 down.
-pub fn drain_all(links: &mut [u32], n: usize, port: u32)
-    requires { ⌜ (linkWords n ≤ length (now links)) × (n ≤ mostCells) × (port < 5) ⌝ }
-    ensures { λ _. ⌜ now (links .exit) ≡ spec.drainAll n port (now (links .entry)) ⌝ }
+// Every queue of the port, from 3 down. Answers how many copies left.
+pub fn drain_all(links: &mut [u32], n: usize, port: u32) -> u32
+    requires { ⌜ (linkWords n ≤ length (now links)) × (1 ≤ n) × (n ≤ mostCells) × (port < 5) ⌝ }
+    ensures { λ r. ⌜ (r, now (links .exit)) ≡ spec.drainedAll n port (now (links .entry)) ⌝ }
 {
-    drain_queue(links, n, port, 3);
-    drain_queue(links, n, port, 2);
-    drain_queue(links, n, port, 1);
-    drain_queue(links, n, port, 0);
+    let three = drain_queue(links, n, port, 3);
+    let two = drain_queue(links, n, port, 2);
+    let one = drain_queue(links, n, port, 1);
+    let none = drain_queue(links, n, port, 0);
+    three + two + one + none
 }

@@ -1,14 +1,13 @@
 -- An ordinary frame: rules 4 to 9, stage by stage. Assumes nothing.
-use Prim.Native.Nat.{ℕ, _+_, _≤_, _<_}
+use Prim.Native.Nat.{ℕ, zero, suc, _+_, _≤_, _<_}
 use mathlib.Core.Path.{_≡_, refl, sym, ap, _∙_}
 use mathlib.Core.Bool.{Bool, true, false, not}
 use mathlib.Core.List.{List, [], _∷_, _++_}
 use mathlib.Core.Option.{none, some}
-use native.Mathlib.Nat.{add-zero}
 use native.Mathlib.Omega.{arith}
 use borrow.Author.Tests.{ne-eqb}
-use lib.Dec.{eqb}
-use lib.ListN.{length}
+use lib.Dec.{eqb, leb}
+use lib.ListN.{length, getD}
 use Rattle.rules.specs.Choice.{if_then_else_, sift}
 use Rattle.rules.specs.Lines.{Line, line, first}
 use Rattle.rules.specs.Tags.{tagsOf}
@@ -20,23 +19,58 @@ use Rattle.rules.specs.ReasonTable.{entering, partNumber, reasonTable, linesIn,
 use Rattle.rules.proofs.Choice.{on}
 use Rattle.rules.proofs.Lines.{first-append-none, first-append-some}
 use Rattle.rules.proofs.Parts.{reason-entering, entering-stops}
-use Rattle.settings.specs.Records.{vlanIs, vlanFrom, vlanAt}
-use Rattle.settings.specs.Table.{foundVlan}
+use Rattle.machine.specs.CountTheorems.{outcomeNumber}
+use Rattle.layout.specs.Places.{vlanWord, vlanOperationWord}
+use Rattle.packed.specs.Operations.{isOperationWord, operationIn, operationIs}
+use Rattle.packed.specs.Ports.{isVidWord, vlanIn, vlanIs}
+use Rattle.packed.specs.declared.operation.OperationSettings.{OperationSettings}
+use Rattle.packed.specs.declared.vlan.VlanSettings.{VlanSettings}
+use Rattle.packed.proofs.RangeLaws.{vlan-range}
+use Rattle.packed.proofs.SettingLaws.{vlan-words-good}
+use Rattle.settings.specs.Records.{vlanAt}
+use Rattle.settings.specs.Table.{vlanCount, entryAt, vidAt, findFrom, foundVlan}
 use Rattle.settings.specs.SettingsOf.{vlansOf, settingsOf}
-use Rattle.settings.specs.FindLaws.{found-there, found-nowhere}
-use Rattle.settings.specs.RangeLaws.{vlan-range}
-use Rattle.settings.specs.declared.vlan.VlanSettings.{VlanSettings}
+use Rattle.settings.proofs.FindLaws.{found-there, found-nowhere}
 use Rattle.settings.specs.declared.table.Found.the-variants.{At, Nowhere, Damaged}
 use Rattle.frame_rules.specs.declared.arrival.Arrival.{Arrival}
 use Rattle.frame_rules.specs.Plans.{damagedPlan, dropPlan}
+use Rattle.frame_rules.specs.Stored.{operationFound, operationFor}
 use Rattle.frame_rules.specs.Arrivals.{portRules, absentReason}
-use Rattle.frame_in.specs.Met.{unlessDropped, metMember, metEntry, metTable, metFrame}
+use Rattle.frame_in.specs.Met.{unlessDropped, metMember, metEntry, metTable, metEntering}
 use Rattle.frame_in.specs.Call.{factsIn}
 use Rattle.frame_in.specs.Judged.{Judged, Way}
 use Rattle.frame_in.specs.Stages.{Ordinary, InEntry, Member}
 use Rattle.frame_in.proofs.Facts.{facts-port, facts-vid, facts-there, facts-vlan}
 use Rattle.frame_in.proofs.Judgements.{damaged-judged, drop-judged}
 use Rattle.frame_in.proofs.Steps.{onReason, no-reason, way-on}
+
+-- ---- the entry that a search finds has its word in range
+
+at-same : (b e : ℕ) → At b ≡ At e → b ≡ e
+at-same b e q = cc
+
+not-nowhere : (e : ℕ) → Nowhere ≡ At e → ⊥
+not-nowhere e q = let z : _≡_ {A = ℕ} 0 1 = cc in omega arith
+
+not-damaged : (e : ℕ) → Damaged ≡ At e → ⊥
+not-damaged e q = let z : _≡_ {A = ℕ} 0 1 = cc in omega arith
+
+in-range-from : (k : ℕ) (l : List ℕ) (b vid e : ℕ) → findFrom k l b vid ≡ At e → isVidWord (entryAt l e) ≡ true
+unfolding findFrom
+in-range-from zero l b vid e q = absurd (not-nowhere e q)
+in-range-from (suc k) l b vid e q =
+    on (isVidWord (entryAt l b))
+    (λ good. on (eqb (vidAt l b) vid)
+    (λ hit. rw (← at-same b e (rw (good, hit) at q)) good)
+    (λ miss. in-range-from k l (b + 1) vid e (rw (good, miss) at q)))
+    (λ bad. absurd (not-damaged e (rw bad at q)))
+
+found-in-range : (l : List ℕ) (vid e : ℕ) → foundVlan l vid ≡ At e → isVidWord (entryAt l e) ≡ true
+unfolding foundVlan
+found-in-range l vid e q =
+    on (leb (vlanCount l) 16)
+    (λ few. in-range-from (vlanCount l) l 0 vid e (rw few at q))
+    (λ many. absurd (not-damaged e (rw many at q)))
 
 -- 7 to 9
 unfoldable pub laterRules : Facts → List (Line Reason)
@@ -76,8 +110,8 @@ module _ (links addresses frame : List ℕ) (n port : ℕ) where
   -- ---- 4 to 8
 
   module _ (arrival : Arrival) (o : Ordinary links addresses frame n port arrival) where
-    met-none : (r : Reason) → first (portRules (settingsOf links .port port) (length (tagsOf frame))) ≡ some r → metFrame links addresses port frame ≡ false
-    unfolding metFrame unlessDropped
+    met-none : (r : Reason) → first (portRules (settingsOf links .port port) (length (tagsOf frame))) ≡ some r → metEntering links addresses port frame ≡ false
+    unfolding metEntering unlessDropped
     met-none r e = rw e
 
     pub barred-judged : 0 < arrival .barred → Judged links addresses frame n port (dropPlan (arrival .barred))
@@ -92,15 +126,15 @@ module _ (links addresses frame : List ℕ) (n port : ℕ) where
       vid-at : arrival .vid ≡ f .vid
       vid-at = o .arrival-is .vid ∙ sym (facts-vid links addresses frame port)
 
-      table-meets : metFrame links addresses port frame ≡ metTable links addresses port frame (foundVlan links (arrival .vid))
-      unfolding metFrame unlessDropped
+      table-meets : metEntering links addresses port frame ≡ metTable links addresses port frame (foundVlan links (arrival .vid))
+      unfolding metEntering unlessDropped
       table-meets = rw not-barred (ap (λ (v : ℕ). metTable links addresses port frame (foundVlan links v)) (sym vid-at))
 
       pub table-damaged : foundVlan links (arrival .vid) ≡ Damaged → Judged links addresses frame n port damagedPlan
       unfolding metTable
       table-damaged e = damaged-judged links addresses frame n port (o .way .lent) (o .way .meets-is ∙ table-meets ∙ rw e)
 
-      absent-meets : foundVlan links (arrival .vid) ≡ Nowhere → metFrame links addresses port frame ≡ false
+      absent-meets : foundVlan links (arrival .vid) ≡ Nowhere → metEntering links addresses port frame ≡ false
       unfolding metTable
       absent-meets e = table-meets ∙ rw e
 
@@ -131,10 +165,7 @@ module _ (links addresses frame : List ℕ) (n port : ℕ) where
           (λ e. rule-judged (o .way) (o .ordinary) (absent-meets a) noVlan k (q ∙ absent-eight e) (eight e a))
 
       module _ (e : ℕ) (found : foundVlan links (arrival .vid) ≡ At e) where
-        pub entry-small : e < 16
-        entry-small = let t = found-there links (arrival .vid) e found in omega (arith, t .few, t .in-use)
-
-        entry-meets : metFrame links addresses port frame ≡ metEntry links addresses port frame (vlanAt links e)
+        entry-meets : metEntering links addresses port frame ≡ metEntry links addresses port frame e
         unfolding metTable
         entry-meets = table-meets ∙ rw found
 
@@ -147,55 +178,78 @@ module _ (links addresses frame : List ℕ) (n port : ℕ) where
         entry-is = facts-vlan links addresses frame port ∙ ap (vlanOf (vlansOf links)) (sym vid-at) ∙ found-there links (arrival .vid) e found .is-entry
 
         entry-vid : vlanAt links e .vid ≡ f .vid
-        unfolding vlanFrom
-        entry-vid = rw add-zero (found-there links (arrival .vid) e found .has-vid ∙ vid-at)
+        unfolding vlanIn
+        entry-vid = found-there links (arrival .vid) e found .has-vid ∙ vid-at
 
-        pub in-entry : (vlan : VlanSettings) → vlanIs vlan ≡ vlanAt links e → InEntry links addresses frame n port arrival vlan
-        in-entry vlan read =
+        operation-at : operationFor links (f .vid) ≡ getD links (vlanOperationWord e) 0
+        unfolding operationFound
+        operation-at = ap (operationFor links) (sym vid-at) ∙ rw found
+
+        pub in-entry : InEntry links addresses frame n port arrival e
+        in-entry =
             record {
-              way = way-on links addresses frame n port (o .way) (entry-meets ∙ ap (metEntry links addresses port frame) (sym read));
+              way = way-on links addresses frame n port (o .way) entry-meets;
               ordinary = o .ordinary;
               arrival-is = o .arrival-is;
-              vlan-is = entry-is ∙ ap vlanEntry (sym read);
               not-barred = not-barred;
               there = entry-there;
-              vid-is = ap (λ (v : VlanNumbers). v .vid) read ∙ entry-vid;
+              vlan-is = entry-is;
+              vid-is = entry-vid;
+              operation-is = operation-at;
+              entry-small = let t = found-there links (arrival .vid) e found in omega (arith, t .few, t .in-use);
+              in-range = found-in-range links (arrival .vid) e found;
             }
 
   -- ---- 9
 
-  module _ (arrival : Arrival) (vlan : VlanSettings) (i : InEntry links addresses frame n port arrival vlan) where
-    pub entry-damaged : vlanInRange (vlanIs vlan) ≡ false → Judged links addresses frame n port damagedPlan
+  module _ (arrival : Arrival) (e : ℕ) (i : InEntry links addresses frame n port arrival e) (word : ℕ) (word-is : word ≡ getD links (vlanOperationWord e) 0) where
+    pub entry-damaged : isOperationWord word ≡ false → Judged links addresses frame n port damagedPlan
     unfolding metEntry
-    entry-damaged e = damaged-judged links addresses frame n port (i .way .lent) (i .way .meets-is ∙ rw e)
+    entry-damaged b = damaged-judged links addresses frame n port (i .way .lent) (i .way .meets-is ∙ rw (ap isOperationWord (sym word-is) ∙ b))
 
-    module _ (good : vlanInRange (vlanIs vlan) ≡ true) where
+    module _ (good : isOperationWord word ≡ true) (own : ℕ) (own-is : own ≡ getD links (vlanWord e) 0) (operation : OperationSettings)
+        (operation-is : operationIs operation ≡ operationIn word) (vlan : VlanSettings) (read : vlanIs vlan ≡ vlanIn (operationIs operation) own) where
+      vlan-read : vlanIs vlan ≡ vlanAt links e
+      vlan-read = read ∙ rw (operation-is, word-is, own-is)
+
+      entry-good : vlanInRange (vlanAt links e) ≡ true
+      entry-good = vlan-words-good (entryAt links e) (getD links (vlanOperationWord e) 0) (i .in-range) (ap isOperationWord (sym word-is) ∙ good)
+
       vid-known : eqb (f .vid) 4095 ≡ false
-      vid-known = ne-eqb (f .vid) 4095 (λ e. omega (arith, vlan-range (vlanIs vlan) good .vid .most, i .vid-is))
+      vid-known = ne-eqb (f .vid) 4095 (λ q. omega (arith, vlan-range (vlanAt links e) entry-good .vid .most, i .vid-is))
+
+      members-are : vlanAt links e .members ≡ vlan .members
+      members-are = sym (ap (λ (v : VlanNumbers). v .members) vlan-read)
 
       member-is : f .vlan .member (f .port) ≡ bit (vlan .members) port
-      unfolding vlanEntry vlanIs
-      member-is = ap (f .vlan .member) (facts-port links addresses frame port) ∙ ap (λ (v : Vlan). v .member port) (i .vlan-is)
+      unfolding vlanEntry
+      member-is =
+          ap (f .vlan .member) (facts-port links addresses frame port)
+          ∙ ap (λ (v : Vlan). v .member port) (i .vlan-is)
+          ∙ ap (λ (m : ℕ). bit m port) members-are
 
       member-rule : (b : Bool) → bit (vlan .members) port ≡ b → first (rowsOf entering f) ≡ (if not b then some noMember else none)
       unfolding laterRules first
-      member-rule b e = rules-later links addresses frame port (i .not-barred) ∙ rw (vid-known, i .there, member-is ∙ e)
+      member-rule b q = rules-later links addresses frame port (i .not-barred) ∙ rw (vid-known, i .there, member-is ∙ q)
 
-      entry-meets-by : (b : Bool) → bit (vlan .members) port ≡ b → metEntry links addresses port frame (vlanIs vlan) ≡ (if b then metMember links addresses port frame (vlanIs vlan) else false)
-      unfolding metEntry vlanIs
-      entry-meets-by b e = rw (good, e)
+      entry-meets-by : (b : Bool) → bit (vlan .members) port ≡ b
+          → metEntry links addresses port frame e ≡ (if b then metMember links addresses port frame (vlanAt links e) else false)
+      unfolding metEntry
+      entry-meets-by b q = rw (ap isOperationWord (sym word-is) ∙ good, ap (λ (m : ℕ). bit m port) members-are ∙ q)
 
       pub nine : bit (vlan .members) port ≡ false → Judged links addresses frame n port (dropPlan 9)
       unfolding reasonNumber
-      nine e = rule-judged (i .way) (i .ordinary) (entry-meets-by false e) noMember 9 refl (member-rule false e)
+      nine q = rule-judged (i .way) (i .ordinary) (entry-meets-by false q) noMember 9 refl (member-rule false q)
 
-      pub as-member : bit (vlan .members) port ≡ true → Member links addresses frame n port arrival vlan
-      as-member e =
+      pub as-member : bit (vlan .members) port ≡ true → Member links addresses frame n port arrival vlan word
+      as-member q =
           record {
-            way = way-on links addresses frame n port (i .way) (entry-meets-by true e);
+            way = way-on links addresses frame n port (i .way) (entry-meets-by true q ∙ ap (metMember links addresses port frame) (sym vlan-read));
             ordinary = i .ordinary;
-            entered = member-rule true e;
+            entered = member-rule true q;
             arrival-is = i .arrival-is;
-            vlan-is = i .vlan-is;
-            in-range = good;
+            not-barred = i .arrival-is .barred ∙ ap outcomeNumber (i .not-barred);
+            vlan-is = i .vlan-is ∙ ap vlanEntry (sym vlan-read);
+            operation-is = word-is ∙ sym (i .operation-is);
+            in-range = ap vlanInRange vlan-read ∙ entry-good;
           }

@@ -1,29 +1,29 @@
 -- Events counted one by one are what a plan counts; the ports left are its mask. Assumes nothing.
-use Prim.Native.Nat.{ℕ, _+_, _^_}
+use Prim.Native.Nat.{ℕ, _+_, _^_, _<_}
 use mathlib.Core.Path.{_≡_, refl, sym, ap, _∙_}
-use mathlib.Core.Bool.{Bool, true, false, not}
+use mathlib.Core.Bool.{Bool, true, false}
 use mathlib.Core.List.{List, [], _∷_, _++_}
-use native.Mathlib.Nat.{zero-add}
 use lib.Pow.{pow-pos}
 use native.Mathlib.Omega.{arith}
 use borrow.Author.Tests.{ne-eqb}
 use lib.Dec.{eqb}
-use Rattle.rules.specs.Choice.{if_then_else_, sift, isNone}
+use Rattle.rules.specs.Choice.{if_then_else_, isNone}
 use Rattle.rules.specs.Facts.{Facts}
 use Rattle.rules.specs.Outcomes.{Frame, outcomeOf}
 use Rattle.rules.specs.Counters.{counterNumber, offered}
-use Rattle.rules.specs.PortTests.{Test, passes, notMember, arrival, elsewhere, state, queueOff, isCandidate, isPassed, anyCandidate, portsLeft}
+use Rattle.rules.specs.PortTests.{Test, passes, notMember, arrival, elsewhere, state, queueOff, portsLeft}
+use Rattle.rules.specs.Arguments.{bit}
 use Rattle.rules.specs.Numbers.{allPorts}
-use Rattle.rules.proofs.Choice.{on}
-use Rattle.layout.specs.Places.{ringOfQueue}
 use Rattle.machine.specs.Events.{Event, counts}
 use Rattle.machine.specs.FrameIn.{mask, testEvent, testEvents, candidateEvents, lessonEvents, joinEvents, outcomeEvents, frameInEvents}
-use Rattle.frame_rules.specs.Candidates.{testNumber, numbersOf, anyCandidateIn}
-use Rattle.frame_rules.specs.Room.{leftMask}
-use Rattle.frame_in.specs.Carried.{countTest, countedTests, countQueued, countedQueued, countIf, pushedIf, pushedTests}
+use Rattle.frame_rules.specs.declared.plan.Masks.{Masks}
+use Rattle.frame_rules.specs.Candidates.{isStateOut, isQueueOut, MasksAre}
+use Rattle.packed.specs.Bits.{less}
+use Rattle.frame_in.specs.Carried.{eachPort, bumpAt, countedFalls, countIf, pushAt}
 use Rattle.words.specs.Counters.{bumped}
 use Rattle.frame_in.specs.Counting.{counted}
 use Rattle.frame_in.specs.Call.{pushedAt}
+use Rattle.frame_in.proofs.Each.{bothAt, falls-together, mask-of-ports}
 
 pub counted-append : (es fs : List Event) (l : List ℕ) → counted (es ++ fs) l ≡ counted fs (counted es l)
 unfolding counted
@@ -32,8 +32,10 @@ counted-append (e ∷ es) fs l = counted-append es fs _
 
 -- ---- the tests
 
-test-counted : (r : ℕ) (t : Test) (l : List ℕ) → counted (testEvent r t) l ≡ countTest r (testNumber t) l
-unfolding counted testEvent countTest testNumber counterNumber
+-- one port's event, by the test that takes it out
+test-counted : (r : ℕ) (t : Test) (l : List ℕ) → counted (testEvent r t) l
+    ≡ (if isQueueOut t then bumped r 18 (if isStateOut t then bumped r 17 l else l) else (if isStateOut t then bumped r 17 l else l))
+unfolding counted testEvent isStateOut isQueueOut counterNumber
 test-counted r passes l = refl
 test-counted r notMember l = refl
 test-counted r arrival l = refl
@@ -41,119 +43,52 @@ test-counted r elsewhere l = refl
 test-counted r state l = refl
 test-counted r queueOff l = refl
 
-passed-is : (t : Test) → isPassed t ≡ eqb (testNumber t) 0
-unfolding isPassed testNumber
-passed-is passes = refl
-passed-is notMember = refl
-passed-is arrival = refl
-passed-is elsewhere = refl
-passed-is state = refl
-passed-is queueOff = refl
+module _ (test : ℕ → Test) (m : Masks) (are : MasksAre test m) where
+  abbrev at : ℕ → List ℕ → List ℕ
+  at = bothAt (bumpAt 17) (bumpAt 18) (bit (less (m .candidates) (m .passing))) (bit (less (m .passing) (m .left)))
 
-candidate-is : (t : Test) → isCandidate t ≡ not (eqb (testNumber t) 1)
-unfolding isCandidate testNumber
-candidate-is passes = refl
-candidate-is notMember = refl
-candidate-is arrival = refl
-candidate-is elsewhere = refl
-candidate-is state = refl
-candidate-is queueOff = refl
+  at-is : (r : ℕ) → r < 5 → (l : List ℕ) → counted (testEvent r (test r)) l ≡ at r l
+  unfolding bothAt
+  at-is r h l = rw (are .state-out r h, are .queue-out r h) (test-counted r (test r) l)
 
-module _ (test : ℕ → Test) where
-  tests-step : (r : ℕ) (rs : List ℕ) (l : List ℕ) → counted (testEvents test (r ∷ rs)) l ≡ counted (testEvents test rs) (countTest r (testNumber (test r)) l)
+  tests-step : (r : ℕ) (rs : List ℕ) (l : List ℕ) → r < 5 → counted (testEvents test (r ∷ rs)) l ≡ counted (testEvents test rs) (at r l)
   unfolding testEvents
-  tests-step r rs l = counted-append (testEvent r (test r)) (testEvents test rs) l ∙ ap (counted (testEvents test rs)) (test-counted r (test r) l)
+  tests-step r rs l h = counted-append (testEvent r (test r)) (testEvents test rs) l ∙ ap (counted (testEvents test rs)) (at-is r h l)
 
   tests-end : (l : List ℕ) → counted (testEvents test []) l ≡ l
   unfolding testEvents counted
   tests-end l = refl
 
-  pub tests-counted : (l : List ℕ) → counted (testEvents test allPorts) l ≡ countedTests (numbersOf test) l
-  unfolding countedTests
-  tests-counted l =
-      tests-step 0 (1 ∷ 2 ∷ 3 ∷ 4 ∷ []) l
-      ∙ tests-step 1 (2 ∷ 3 ∷ 4 ∷ []) _
-      ∙ tests-step 2 (3 ∷ 4 ∷ []) _
-      ∙ tests-step 3 (4 ∷ []) _
-      ∙ tests-step 4 [] _
+  port-by-port : (l : List ℕ) → counted (testEvents test allPorts) l ≡ eachPort at allPorts l
+  unfolding eachPort
+  port-by-port l =
+      tests-step 0 (1 ∷ 2 ∷ 3 ∷ 4 ∷ []) l (omega arith)
+      ∙ tests-step 1 (2 ∷ 3 ∷ 4 ∷ []) _ (omega arith)
+      ∙ tests-step 2 (3 ∷ 4 ∷ []) _ (omega arith)
+      ∙ tests-step 3 (4 ∷ []) _ (omega arith)
+      ∙ tests-step 4 [] _ (omega arith)
       ∙ tests-end _
 
-  pub any-candidate : anyCandidate test ≡ anyCandidateIn (numbersOf test)
-  unfolding anyCandidate anyCandidateIn
-  any-candidate = rw (candidate-is (test 0), candidate-is (test 1), candidate-is (test 2), candidate-is (test 3), candidate-is (test 4))
+  pub tests-counted : (l : List ℕ) → counted (testEvents test allPorts) l ≡ countedFalls m l
+  unfolding countedFalls counterNumber
+  tests-counted l =
+      port-by-port l
+      ∙ sym (falls-together 17 18 (omega arith) (omega arith) (λ e. omega arith) (less (m .candidates) (m .passing)) (less (m .passing) (m .left)) l)
 
   -- ---- the ports left
 
-  abbrev left : List ℕ → List ℕ
-  left rs = sift (λ (r : ℕ). isPassed (test r)) rs
+  pub left-is : mask (portsLeft test) ≡ m .left
+  left-is = ap mask (sym (are .left)) ∙ mask-of-ports (m .left) (are .small)
 
-  number-passed : (r : ℕ) (b : Bool) → isPassed (test r) ≡ b → eqb (testNumber (test r)) 0 ≡ b
-  number-passed r b e = sym (passed-is (test r)) ∙ e
+pub queued-counted : (f : Frame) (ports : List ℕ) (l : List ℕ) → counted (joinEvents f ports) l ≡ eachPort (bumpAt 16) ports l
+unfolding joinEvents counted eachPort counterNumber
+queued-counted f [] l = refl
+queued-counted f (r ∷ rs) l = queued-counted f rs _
 
-  queued-step : (f : Frame) (r : ℕ) (rs : List ℕ) (l : List ℕ)
-      → counted (joinEvents f (left (r ∷ rs))) l ≡ counted (joinEvents f (left rs)) (countQueued r (testNumber (test r)) l)
-  unfolding sift joinEvents counted countQueued counterNumber
-  queued-step f r rs l =
-      on (isPassed (test r))
-      (λ e. rw (e, number-passed r true e))
-      (λ e. rw (e, number-passed r false e))
-
-  queued-end : (f : Frame) (l : List ℕ) → counted (joinEvents f (left [])) l ≡ l
-  unfolding sift joinEvents counted
-  queued-end f l = refl
-
-  pub queued-counted : (f : Frame) (l : List ℕ) → counted (joinEvents f (portsLeft test)) l ≡ countedQueued (numbersOf test) l
-  unfolding portsLeft countedQueued
-  queued-counted f l =
-      queued-step f 0 (1 ∷ 2 ∷ 3 ∷ 4 ∷ []) l
-      ∙ queued-step f 1 (2 ∷ 3 ∷ 4 ∷ []) _
-      ∙ queued-step f 2 (3 ∷ 4 ∷ []) _
-      ∙ queued-step f 3 (4 ∷ []) _
-      ∙ queued-step f 4 [] _
-      ∙ queued-end f _
-
-  pushed-step : (n queue cell r : ℕ) (rs : List ℕ) (l : List ℕ)
-      → pushedAt n queue cell (left (r ∷ rs)) l ≡ pushedAt n queue cell (left rs) (pushedIf n (ringOfQueue r queue) cell (testNumber (test r)) l)
-  unfolding sift pushedAt pushedIf
-  pushed-step n queue cell r rs l =
-      on (isPassed (test r))
-      (λ e. rw (e, number-passed r true e))
-      (λ e. rw (e, number-passed r false e))
-
-  pushed-end : (n queue cell : ℕ) (l : List ℕ) → pushedAt n queue cell (left []) l ≡ l
-  unfolding sift pushedAt
-  pushed-end n queue cell l = refl
-
-  pub pushed-tests : (n queue cell : ℕ) (l : List ℕ) → pushedAt n queue cell (portsLeft test) l ≡ pushedTests n queue cell (numbersOf test) l
-  unfolding portsLeft pushedTests
-  pushed-tests n queue cell l =
-      pushed-step n queue cell 0 (1 ∷ 2 ∷ 3 ∷ 4 ∷ []) l
-      ∙ rw (zero-add queue)
-      (pushed-step n queue cell 1 (2 ∷ 3 ∷ 4 ∷ []) _
-      ∙ pushed-step n queue cell 2 (3 ∷ 4 ∷ []) _
-      ∙ pushed-step n queue cell 3 (4 ∷ []) _
-      ∙ pushed-step n queue cell 4 [] _
-      ∙ pushed-end n queue cell _)
-
-  mask-step : (r : ℕ) (rs : List ℕ) → mask (left (r ∷ rs)) ≡ (if eqb (testNumber (test r)) 0 then 2 ^ r else 0) + mask (left rs)
-  unfolding sift mask
-  mask-step r rs =
-      on (isPassed (test r))
-      (λ e. rw (e, number-passed r true e))
-      (λ e. rw (e, number-passed r false e) (sym (zero-add _)))
-
-  mask-end : mask (left []) ≡ 0
-  unfolding sift mask
-  mask-end = refl
-
-  pub left-is : mask (portsLeft test) ≡ leftMask (numbersOf test)
-  unfolding portsLeft leftMask
-  left-is =
-      rw (mask-step 0 (1 ∷ 2 ∷ 3 ∷ 4 ∷ []), mask-step 1 (2 ∷ 3 ∷ 4 ∷ []), mask-step 2 (3 ∷ 4 ∷ []), mask-step 3 (4 ∷ []), mask-step 4 [], mask-end)
-      (five (if eqb (testNumber (test 0)) 0 then 1 else 0) (if eqb (testNumber (test 1)) 0 then 2 else 0) (if eqb (testNumber (test 2)) 0 then 4 else 0) (if eqb (testNumber (test 3)) 0 then 8 else 0) (if eqb (testNumber (test 4)) 0 then 16 else 0))
-    where
-      five : (a b c d e : ℕ) → a + (b + (c + (d + (e + 0)))) ≡ a + b + c + d + e
-      five a b c d e = omega arith
+pub pushed-each : (n queue cell : ℕ) (ports : List ℕ) (l : List ℕ) → pushedAt n queue cell ports l ≡ eachPort (pushAt n queue cell) ports l
+unfolding pushedAt eachPort
+pushed-each n queue cell [] l = refl
+pushed-each n queue cell (r ∷ rs) l = pushed-each n queue cell rs _
 
 pub none-is : (ps : List ℕ) → isNone ps ≡ eqb (mask ps) 0
 unfolding isNone mask

@@ -1,27 +1,25 @@
 -- The writes put together. Assumes nothing.
-use Prim.Native.Nat.{ℕ, _≤_}
-use mathlib.Core.Path.{_≡_, sym, ap, _∙_}
+use Prim.Native.Nat.{ℕ, _≤_, _<_}
+use mathlib.Core.Path.{_≡_, refl, sym, ap, _∙_}
 use mathlib.Core.Bool.{Bool, true, false}
 use mathlib.Core.List.{List, _++_}
 use native.Mathlib.Omega.{arith}
-use borrow.Author.Tests.{eq-eqb, ne-eqb, leb-true, lt-ltb, le-ltb, leb-false}
+use borrow.Author.Tests.{eq-eqb, ne-eqb, leb-true, ltb-true, lt-ltb, le-ltb, leb-false}
 use lib.Dec.{leb, ltb}
 use lib.ListN.{length}
 use Rattle.rules.specs.Cells.{cells}
 use Rattle.rules.proofs.Choice.{on}
 use Rattle.lent.specs.declared.Answer.{Answer}
 use Rattle.lent.specs.Answers.{doneWith}
-use Rattle.cells.specs.Chains.{follow, allBelow}
-use Rattle.cells.specs.Bytes.{storeCells}
+use Rattle.cells.specs.Chains.{follow, behind}
+use Rattle.cells.specs.Bytes.{storeCells, storeFrom}
 use Rattle.cells.specs.Stored.{storedBytes}
-use Rattle.cells.specs.Free.{freeCount, firstFree, roomFor, taken, takeCells}
+use Rattle.cells.specs.Free.{freeCount, firstFree, roomFor, taken}
 use Rattle.cells.specs.declared.free.Room.the-variants.{Enough, NoRoom, Damaged}
-use Rattle.frame_rules.specs.declared.plan.Tests.{Tests}
 use Rattle.frame_rules.specs.declared.plan.Plan.{Plan}
-use Rattle.frame_rules.specs.Room.{ringsReady}
-use Rattle.frame_in.specs.Carried.{countedBy, pushedTests, joinedAt, joinedBy, storedAt, storedBy, joinAt, joinBy, lessonBy, carriedOut}
+use Rattle.frame_rules.specs.Candidates.{portsIn}
+use Rattle.frame_in.specs.Carried.{eachPort, countedBy, pushAt, joinedAt, joinedBy, storedAt, storedBy, joinAt, joinBy, lessonBy, carriedOut}
 use Rattle.frame_in.specs.Call.{Memories}
-use Rattle.frame_in.proofs.Carries.{ready-taken}
 
 -- ---- room
 
@@ -37,14 +35,14 @@ none-not-damaged q = let z : _≡_ {A = ℕ} 0 1 = cc in omega arith
 module _ (n k : ℕ) (l : List ℕ) where
   pub record Enough′ : Type 0 where
     pub few : ltb (freeCount l) k ≡ false
-    pub below : allBelow n (follow l k (firstFree l)) ≡ true
+    pub below : ltb (firstFree l) n ≡ true
 
   pub enough : roomFor n k l ≡ Enough → Enough′
   unfolding roomFor
   enough h =
       on (leb (freeCount l) n)
       (λ a. on (leb k (freeCount l))
-      (λ b. on (allBelow n (follow l k (firstFree l)))
+      (λ b. on (ltb (firstFree l) n)
       (λ c. record { few = le-ltb (freeCount l) k (leb-true k (freeCount l) b); below = c })
       (λ c. absurd (enough-not-damaged (sym (rw (a, b, c) at h)))))
       (λ b. absurd (enough-not-none (sym (rw (a, b) at h)))))
@@ -55,44 +53,44 @@ module _ (n k : ℕ) (l : List ℕ) where
   no-room h =
       on (leb (freeCount l) n)
       (λ a. on (leb k (freeCount l))
-      (λ b. on (allBelow n (follow l k (firstFree l)))
+      (λ b. on (ltb (firstFree l) n)
       (λ c. absurd (enough-not-none (rw (a, b, c) at h)))
       (λ c. absurd (none-not-damaged (sym (rw (a, b, c) at h)))))
       (λ b. lt-ltb (freeCount l) k (leb-false k (freeCount l) b)))
       (λ a. absurd (none-not-damaged (sym (rw a at h))))
 
-pub store-below : (n long k : ℕ) (l : List ℕ) → k ≡ cells long → roomFor n (cells long) l ≡ Enough → allBelow n (follow l k (firstFree l)) ≡ true
-store-below n long k l e h = rw e (enough n (cells long) l h .below)
+pub first-below : (n k : ℕ) (l : List ℕ) → roomFor n k l ≡ Enough → firstFree l < n
+first-below n k l h = ltb-true (firstFree l) n (enough n k l h .below)
 
--- ---- cells and rings
+-- ---- cells and queues
 
-take-memory : (k ports : ℕ) (l : List ℕ) {first : ℕ} {m : List ℕ} → _≡_ {A = ℕ × List ℕ} (first, m) (takeCells k ports l) → m ≡ taken k ports l
-unfolding takeCells
-take-memory k ports l e = ap (λ (p : ℕ × List ℕ). p .1) e
+pub after-is : {x k : ℕ} {mem : List ℕ} (n : ℕ) (l : List ℕ) (y c : ℕ) (bytes cells : List ℕ) → _≡_ {A = ℕ × List ℕ} (x, mem) (storeFrom n l y c bytes cells)
+    → k ≡ y → x ≡ behind n l k c
+after-is n l y c bytes cells e f = rw f (ap (λ (p : ℕ × List ℕ). p .0) e)
 
-pub rings-after : (n k ports q : ℕ) (t : Tests) (l : List ℕ) {first : ℕ} {m : List ℕ} → _≡_ {A = ℕ × List ℕ} (first, m) (takeCells k ports l) → q ≤ 3
-    → ringsReady n l q t ≡ true → ringsReady n m q t ≡ true
-rings-after n k ports q t l e h r = rw (take-memory k ports l e) (ready-taken n k ports q t l h ∙ r)
+memory-is : {x : ℕ} {mem : List ℕ} (n : ℕ) (l : List ℕ) (y c : ℕ) (bytes cells : List ℕ) → _≡_ {A = ℕ × List ℕ} (x, mem) (storeFrom n l y c bytes cells)
+    → mem ≡ storeCells cells (follow n l y c) bytes
+memory-is n l y c bytes cells e = ap (λ (p : ℕ × List ℕ). p .1) e
 
 both : {x x′ y y′ : List ℕ} → x ≡ x′ → y ≡ y′ → _≡_ {A = List ℕ × List ℕ} (x, y) (x′, y′)
 both p q = cc
 
 module _ (n : ℕ) (plan : Plan) (frame m l : List ℕ) where
-  stored : (k : ℕ) (h : List ℕ) → k ≡ cells (length frame) → h ≡ storedBytes (plan .header)
-      → storeCells m (follow l k (firstFree l)) (h ++ frame) ≡ storedAt plan m l frame
+  stored : storeCells m (follow n l (cells (length frame)) (firstFree l)) (storedBytes (plan .header) ++ frame) ≡ storedAt n plan m l frame
   unfolding storedAt
-  stored k h a b = rw (a, b)
+  stored = refl
 
   joined : (k : ℕ) → k ≡ cells (length frame)
-      → pushedTests n (plan .queue) (firstFree l) (plan .tests) (taken k (plan .left) l) ≡ joinedAt n plan frame l
+      → eachPort (pushAt n (plan .queue) (firstFree l)) (portsIn (plan .left)) (taken n k (plan .left) l) ≡ joinedAt n plan frame l
   unfolding joinedAt
   joined k a = rw a
 
-  pub join-is : (k : ℕ) (h : List ℕ) {m₁ l₁ l₂ : List ℕ} {first : ℕ} → k ≡ cells (length frame) → h ≡ storedBytes (plan .header)
-      → m₁ ≡ storeCells m (follow l k (firstFree l)) (h ++ frame) → _≡_ {A = ℕ × List ℕ} (first, l₁) (takeCells k (plan .left) l)
-      → l₂ ≡ pushedTests n (plan .queue) (firstFree l) (plan .tests) l₁ → _≡_ {A = List ℕ × List ℕ} (m₁, l₂) (joinAt n plan frame m l)
-  join-is k h a b d e f =
-      both (d ∙ stored k h a b) (f ∙ ap (pushedTests n (plan .queue) (firstFree l) (plan .tests)) (take-memory k (plan .left) l e) ∙ joined k a)
+  pub join-is : (k : ℕ) {m₁ l₁ l₂ : List ℕ} {after : ℕ} → k ≡ cells (length frame)
+      → _≡_ {A = ℕ × List ℕ} (after, m₁) (storeFrom n l (cells (length frame)) (firstFree l) (storedBytes (plan .header) ++ frame) m) → l₁ ≡ taken n k (plan .left) l
+      → l₂ ≡ eachPort (pushAt n (plan .queue) (firstFree l)) (portsIn (plan .left)) l₁ → _≡_ {A = List ℕ × List ℕ} (m₁, l₂) (joinAt n plan frame m l)
+  join-is k a d e f =
+      both (memory-is n l (cells (length frame)) (firstFree l) (storedBytes (plan .header) ++ frame) m d ∙ stored)
+      (f ∙ ap (eachPort (pushAt n (plan .queue) (firstFree l)) (portsIn (plan .left))) e ∙ joined k a)
 
   pub join-zero : plan .reason ≡ 0 → joinAt n plan frame m l ≡ joinBy n plan frame m l
   unfolding storedBy joinedBy
@@ -107,7 +105,7 @@ module _ (n : ℕ) (plan : Plan) (frame m l : List ℕ) where
       → r ≡ doneWith (plan .reason) (plan .left) → _≡_ {A = Answer × Memories} (r, (m₁, l₂, a₁)) (carriedOut n plan port frame m l a)
   unfolding carriedOut
   carried-is port a {r} {m₁} {l₁} {l₂} {a₁} {unlearned} j t c d =
-      let jm : m₁ ≡ storedBy plan m l frame = ap (λ (p : List ℕ × List ℕ). p .0) j in
+      let jm : m₁ ≡ storedBy n plan m l frame = ap (λ (p : List ℕ × List ℕ). p .0) j in
       let jl : l₁ ≡ joinedBy n plan frame l = ap (λ (p : List ℕ × List ℕ). p .1) j in
       let u : unlearned ≡ lessonBy (plan .lesson) port a .0 = ap (λ (p : Bool × List ℕ). p .0) t in
       let ta : a₁ ≡ lessonBy (plan .lesson) port a .1 = ap (λ (p : Bool × List ℕ). p .1) t in

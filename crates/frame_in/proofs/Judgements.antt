@@ -11,6 +11,7 @@ use lib.ListN.{length}
 use Rattle.rules.specs.Lines.{first}
 use Rattle.rules.specs.Cells.{cells}
 use Rattle.rules.specs.Reasons.{Reason, short, long, groupSource, tagCount, portBlocking, portListening, vid4095, noVlan, noMember, portLearning, noCandidate, noPortLeft, noRoom, reasonNumber}
+use Rattle.rules.specs.Counters.{counterNumber, stateOut, queueOut}
 use Rattle.rules.specs.PortTests.{portsLeft}
 use Rattle.rules.specs.Facts.{Facts}
 use Rattle.rules.specs.ReasonTable.{queueing, partNumber, reasonTable, linesIn, rowsOf, reasonFor}
@@ -27,18 +28,21 @@ use Rattle.cells.specs.declared.free.Room.the-variants.{Enough, NoRoom, Damaged
 use Rattle.frame_rules.specs.declared.plan.Lesson.{Lesson}
 use Rattle.frame_rules.specs.declared.plan.Offer.{Offer}
 use Rattle.frame_rules.specs.declared.plan.Plan.{Plan}
-use Rattle.frame_rules.specs.Plans.{noLesson, noTests, damagedPlan, lessonPlan, dropPlan, offerPlan}
-use Rattle.frame_rules.specs.Stored.{storedHeader}
-use Rattle.frame_rules.specs.Candidates.{numbersOf}
-use Rattle.frame_rules.specs.Room.{leftMask, ringsReady, roomMet, metRoom, planOffered}
-use Rattle.frame_in.specs.Carried.{countTest, countedTests, lessonBy, Ready}
+use Rattle.frame_rules.specs.Plans.{noLesson, noMasks, damagedPlan, lessonPlan, dropPlan, offerPlan}
+use Rattle.frame_rules.specs.Stored.{operationFor, storedHeader}
+use Rattle.frame_rules.specs.Candidates.{MasksAre}
+use Rattle.packed.specs.Bits.{less}
+use Rattle.queues.specs.Lists.{allWaitingInRange}
+use Rattle.frame_rules.specs.Room.{roomMet, metRoom, planOffered}
+use Rattle.frame_in.specs.Carried.{bumpAt, countedFalls, lessonBy, Ready}
 use Rattle.frame_in.specs.Met.{met}
 use Rattle.frame_in.specs.Call.{factsIn, learnedIn}
 use Rattle.frame_in.specs.Counting.{counted}
 use Rattle.frame_in.specs.Judged.{Lent, Judged}
 use Rattle.frame_in.proofs.Facts.{facts-room}
+use Rattle.frame_in.proofs.Each.{each-none}
 use Rattle.frame_in.proofs.Counts.{tests-counted, left-is, none-is}
-use Rattle.frame_rules.proofs.RoomOutcomes.{none-left, room-damaged, room-none, room-enough, rings-damaged}
+use Rattle.frame_rules.proofs.RoomOutcomes.{none-left, room-damaged, room-none, room-enough, queues-damaged}
 use Rattle.frame_in.proofs.Joins.{enough, no-room}
 use Rattle.frame_in.proofs.Outcomes.{not-zero, dropped-carried, queued-carried}
 
@@ -100,7 +104,7 @@ module _ (links addresses frame : List ℕ) (n port : ℕ) (lent : Lent links ad
         queue = q;
         longest = λ z. absurd (never-zero r (sym e ∙ z));
         room = λ z. absurd (never-zero r (sym e ∙ z));
-        rings = λ z. absurd (never-zero r (sym e ∙ z));
+        left = λ z. absurd (never-zero r (sym e ∙ z));
       }
 
   drop-outcome : (r : Reason) → reasonFor f ≡ some r → outcomeOf f ≡ drops r
@@ -109,9 +113,13 @@ module _ (links addresses frame : List ℕ) (n port : ℕ) (lent : Lent links ad
 
   -- ---- dropped before a candidate is tested
 
-  no-tests : countsTests f ≡ false → (l : List ℕ) → counted (candidateEvents f) l ≡ countedTests noTests l
-  unfolding candidateEvents counted countedTests countTest
-  no-tests e l = rw e
+  nothing : less 0 0 ≡ 0
+  unfolding less
+  nothing = refl
+
+  no-tests : countsTests f ≡ false → (l : List ℕ) → counted (candidateEvents f) l ≡ countedFalls noMasks l
+  unfolding candidateEvents counted countedFalls
+  no-tests e l = rw e (each-none (bumpAt (counterNumber stateOut)) (less 0 0) l nothing ∙ each-none (bumpAt (counterNumber queueOut)) (less 0 0) _ nothing)
 
   pub lesson-judged : (r : Reason) (lesson : Lesson) → met links addresses port frame ≡ false → reasonFor f ≡ some r → countsTests f ≡ false
       → Taught links addresses frame port lesson → Judged links addresses frame n port (lessonPlan (reasonNumber r) lesson)
@@ -134,25 +142,25 @@ module _ (links addresses frame : List ℕ) (n port : ℕ) (lent : Lent links ad
   -- ---- offered
 
   module _ (tested : countsTests f ≡ true) (reason-is : reasonFor f ≡ first (rowsOf queueing f)) (lesson : Lesson) (o : Offer)
-      (taught : Taught links addresses frame port lesson) (numbers-are : o .tests ≡ numbersOf (f .test)) (queue-is : o .queue ≡ f .queue)
-      (queue-small : o .queue ≤ 3) (header-is : o .header ≡ storedHeader (frameOf f)) (longest : length frame ≤ 4083)
-      (met-is : met links addresses port frame ≡ metRoom n links (length frame) (o .queue) (o .tests)) where
-    offer-tests : (l : List ℕ) → counted (candidateEvents f) l ≡ countedTests (o .tests) l
+      (taught : Taught links addresses frame port lesson) (masks-are : MasksAre (f .test) (o .masks)) (queue-is : o .queue ≡ f .queue)
+      (queue-small : o .queue ≤ 3) (header-is : o .header ≡ storedHeader (operationFor links (f .vid)) (frameOf f)) (longest : length frame ≤ 4083)
+      (met-is : met links addresses port frame ≡ metRoom n links (length frame) (o .masks .left)) where
+    offer-tests : (l : List ℕ) → counted (candidateEvents f) l ≡ countedFalls (o .masks) l
     unfolding candidateEvents
-    offer-tests l = rw (tested, numbers-are) (tests-counted (f .test) l)
+    offer-tests l = rw tested (tests-counted (f .test) (o .masks) masks-are l)
 
-    isNone-is : isNone (portsLeft (f .test)) ≡ eqb (leftMask (o .tests)) 0
-    isNone-is = none-is (portsLeft (f .test)) ∙ ap (λ (m : ℕ). eqb m 0) (left-is (f .test) ∙ ap leftMask (sym numbers-are))
+    isNone-is : isNone (portsLeft (f .test)) ≡ eqb (o .masks .left) 0
+    isNone-is = none-is (portsLeft (f .test)) ∙ ap (λ (m : ℕ). eqb m 0) (left-is (f .test) (o .masks) masks-are)
 
-    reason-none : eqb (leftMask (o .tests)) 0 ≡ true → reasonFor f ≡ some noPortLeft
+    reason-none : eqb (o .masks .left) 0 ≡ true → reasonFor f ≡ some noPortLeft
     unfolding rowsOf linesIn sift partNumber reasonTable first
     reason-none e = reason-is ∙ rw (isNone-is ∙ e)
 
-    reason-full : eqb (leftMask (o .tests)) 0 ≡ false → ltb (freeCount links) (cells (length frame)) ≡ true → reasonFor f ≡ some noRoom
+    reason-full : eqb (o .masks .left) 0 ≡ false → ltb (freeCount links) (cells (length frame)) ≡ true → reasonFor f ≡ some noRoom
     unfolding rowsOf linesIn sift partNumber reasonTable first
     reason-full e h = reason-is ∙ rw (isNone-is ∙ e, facts-room links addresses frame port ∙ h)
 
-    outcome-queued : eqb (leftMask (o .tests)) 0 ≡ false → ltb (freeCount links) (cells (length frame)) ≡ false → outcomeOf f ≡ queues (frameOf f) (portsLeft (f .test))
+    outcome-queued : eqb (o .masks .left) 0 ≡ false → ltb (freeCount links) (cells (length frame)) ≡ false → outcomeOf f ≡ queues (frameOf f) (portsLeft (f .test))
     unfolding outcomeOf outcomeBy rowsOf linesIn sift partNumber reasonTable first
     outcome-queued e h = rw (reason-is, isNone-is ∙ e, facts-room links addresses frame port ∙ h)
 
@@ -166,12 +174,12 @@ module _ (links addresses frame : List ℕ) (n port : ℕ) (lent : Lent links ad
           };
         }
 
-    twelve : eqb (leftMask (o .tests)) 0 ≡ true → Judged links addresses frame n port (offerPlan 12 lesson o 0)
+    twelve : eqb (o .masks .left) 0 ≡ true → Judged links addresses frame n port (offerPlan 12 lesson o 0)
     unfolding reasonNumber metRoom
     twelve e = drop-offer noPortLeft (reason-none e) (met-is ∙ rw e)
 
-    module _ (e : eqb (leftMask (o .tests)) 0 ≡ false) where
-      met-room : (room : Room) → roomFor n (cells (length frame)) links ≡ room → met links addresses port frame ≡ roomMet room (ringsReady n links (o .queue) (o .tests))
+    module _ (e : eqb (o .masks .left) 0 ≡ false) where
+      met-room : (room : Room) → roomFor n (cells (length frame)) links ≡ room → met links addresses port frame ≡ roomMet room (allWaitingInRange links)
       unfolding metRoom
       met-room room h = met-is ∙ rw (e, h)
 
@@ -179,8 +187,8 @@ module _ (links addresses frame : List ℕ) (n port : ℕ) (lent : Lent links ad
       unfolding reasonNumber roomMet
       thirteen h = drop-offer noRoom (reason-full e (no-room n (cells (length frame)) links h)) (met-room NoRoom h)
 
-      queued-ready : roomFor n (cells (length frame)) links ≡ Enough → ringsReady n links (o .queue) (o .tests) ≡ true → (memory : List ℕ) → length memory ≡ cellBytes n
-          → Ready n memory links frame (offerPlan 0 lesson o (leftMask (o .tests)))
+      queued-ready : roomFor n (cells (length frame)) links ≡ Enough → allWaitingInRange links ≡ true → (memory : List ℕ) → length memory ≡ cellBytes n
+          → Ready n memory links frame (offerPlan 0 lesson o (o .masks .left))
       queued-ready h r memory size =
           record {
             most = lent .most;
@@ -193,19 +201,19 @@ module _ (links addresses frame : List ℕ) (n port : ℕ) (lent : Lent links ad
             queue = queue-small;
             longest = λ z. longest;
             room = λ z. h;
-            rings = λ z. r;
+            left = λ z. masks-are .small;
           }
 
-      queued-judged : roomFor n (cells (length frame)) links ≡ Enough → ringsReady n links (o .queue) (o .tests) ≡ true
-          → Judged links addresses frame n port (offerPlan 0 lesson o (leftMask (o .tests)))
+      queued-judged : roomFor n (cells (length frame)) links ≡ Enough → allWaitingInRange links ≡ true
+          → Judged links addresses frame n port (offerPlan 0 lesson o (o .masks .left))
       unfolding roomMet
       queued-judged h r =
           record {
             damage = sym (met-room Enough h ∙ ap not r);
             right = λ _. record {
               ready = queued-ready h r;
-              carried = queued-carried links addresses frame n port (offerPlan 0 lesson o (leftMask (o .tests))) offer-tests (taught .lesson-is)
-                  (outcome-queued e (enough n (cells (length frame)) links h .few)) refl numbers-are refl queue-is header-is (lent .count);
+              carried = queued-carried links addresses frame n port (offerPlan 0 lesson o (o .masks .left)) offer-tests (taught .lesson-is)
+                  (outcome-queued e (enough n (cells (length frame)) links h .few)) refl masks-are refl queue-is header-is (lent .count);
             };
           }
 
@@ -213,17 +221,17 @@ module _ (links addresses frame : List ℕ) (n port : ℕ) (lent : Lent links ad
       unfolding roomMet
       damaged-room h = damaged-judged (met-room Damaged h)
 
-      damaged-rings : roomFor n (cells (length frame)) links ≡ Enough → ringsReady n links (o .queue) (o .tests) ≡ false → Judged links addresses frame n port damagedPlan
+      damaged-queues : roomFor n (cells (length frame)) links ≡ Enough → allWaitingInRange links ≡ false → Judged links addresses frame n port damagedPlan
       unfolding roomMet
-      damaged-rings h r = damaged-judged (met-room Enough h ∙ ap not r)
+      damaged-queues h r = damaged-judged (met-room Enough h ∙ ap not r)
 
     pub offer-judged : Judged links addresses frame n port (planOffered n links (length frame) lesson o)
     offer-judged =
-        on (eqb (leftMask (o .tests)) 0)
+        on (eqb (o .masks .left) 0)
         (λ e. subst (Judged links addresses frame n port) (none-left n links (length frame) lesson o (eqb-true _ _ e)) (twelve e))
         (λ e. onRoom (roomFor n (cells (length frame)) links)
         (λ h. subst (Judged links addresses frame n port) (room-damaged n links (length frame) lesson o (eqb-false _ _ e) h) (damaged-room e h))
         (λ h. subst (Judged links addresses frame n port) (room-none n links (length frame) lesson o (eqb-false _ _ e) h) (thirteen e h))
-        (λ h. on (ringsReady n links (o .queue) (o .tests))
+        (λ h. on (allWaitingInRange links)
         (λ r. subst (Judged links addresses frame n port) (room-enough n links (length frame) lesson o (eqb-false _ _ e) h r) (queued-judged e h r))
-        (λ r. subst (Judged links addresses frame n port) (rings-damaged n links (length frame) lesson o (eqb-false _ _ e) h r) (damaged-rings e h r))))
+        (λ r. subst (Judged links addresses frame n port) (queues-damaged n links (length frame) lesson o (eqb-false _ _ e) h r) (damaged-queues e h r))))

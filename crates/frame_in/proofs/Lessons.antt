@@ -1,16 +1,15 @@
 -- The look-ups: which ports are chosen, and that what is learned is the rules' lesson. Assumes nothing.
 use Prim.Native.Nat.{ℕ, _+_, _^_, _≤_, _<_}
 use mathlib.Core.Path.{_≡_, refl, sym, ap, _∙_}
-use mathlib.Core.Bool.{Bool, true, false, _||_, not}
+use mathlib.Core.Bool.{Bool, true, false, not}
 use mathlib.Core.List.{List}
 use mathlib.Core.Option.{Option, none, some}
 use native.Mathlib.Omega.{arith}
-use borrow.Author.Tests.{ne-eqb}
-use lib.Dec.{eqb}
 use lib.ListN.{length}
 use Rattle.rules.specs.Tags.{Bytes, isGroup, addressAt, destination, source}
 use Rattle.rules.specs.Tables.{Found as Match, at, nowhere}
 use Rattle.rules.specs.Addresses.{Entry, Table, LookUp as RuleLookUp, key, find, emptyFor, group, answered as ruleAnswered, lookUp as ruleLookUp, afterLookUp, learningOf, isNoPlace, learnBy, learn}
+use Rattle.rules.specs.Arguments.{bit}
 use Rattle.rules.specs.PortTests.{isChosen}
 use Rattle.rules.specs.Facts.{Facts}
 use Rattle.rules.specs.Outcomes.{learningFor}
@@ -19,12 +18,14 @@ use Rattle.addresses.specs.Numbers.{tableOf}
 use Rattle.addresses.specs.Search.{answered, lookUp, placeOf, damaged}
 use Rattle.addresses.specs.Writes.{markedBy, learnedBy}
 use Rattle.addresses.specs.declared.LookUp.{LookUp}
-use Rattle.addresses.specs.declared.LookUp.the-variants.{Full}
+use Rattle.addresses.specs.declared.LookUp.the-variants.{Found, Full}
 use Rattle.addresses.proofs.LookUps.{look-up-finds, place-inside, port-inside}
 use Rattle.addresses.proofs.Steps.{step-theorems}
 use Rattle.addresses.proofs.Frames.{frame-theorems}
 use Rattle.frame_rules.specs.declared.plan.Lesson.{Lesson}
-use Rattle.frame_rules.specs.Candidates.{destinationLookUp, chosenPort}
+use Rattle.packed.proofs.BitLaws.{bit-power}
+use Rattle.frame_rules.specs.Candidates.{destinationLookUp, chosenMask, ChosenFits}
+use Rattle.frame_rules.proofs.Masks.{every-bit}
 use Rattle.frame_in.specs.Carried.{learnedLesson, lessonBy}
 use Rattle.frame_in.specs.Call.{factsIn, lessonIn}
 use Rattle.frame_in.proofs.Facts.{facts-port, facts-source, facts-look-up, facts-chosen}
@@ -35,14 +36,23 @@ address-below bytes i each = omega (arith, each i, each (i + 1), each (i + 2), e
 
 -- ---- the ports chosen
 
-chosen-by : (m : List ℕ) (k : ℕ) (found : Match Entry) (empty : Option ℕ) → lookUp m k ≡ answered found empty → (r : ℕ)
-    → isChosen (ruleAnswered found) r ≡ (eqb (chosenPort (lookUp m k)) 5 || eqb (chosenPort (lookUp m k)) r)
-unfolding isChosen chosenPort answered ruleAnswered
-chosen-by m k nowhere none e r = rw e
-chosen-by m k nowhere (some i) e r = rw e
-chosen-by m k (at i x) empty e r =
-    let small = port-inside m k (x .port) i e in
-    rw e (rw (ne-eqb (x .port) 5 (λ q. omega arith)) (eqb-sym r (x .port)))
+chosen-by : (m : List ℕ) (k : ℕ) (found : Match Entry) (empty : Option ℕ) → lookUp m k ≡ answered found empty → (r : ℕ) → r < 5
+    → isChosen (ruleAnswered found) r ≡ bit (chosenMask (lookUp m k)) r
+unfolding isChosen chosenMask answered ruleAnswered
+chosen-by m k nowhere none e r h = rw e (sym (every-bit r h))
+chosen-by m k nowhere (some i) e r h = rw e (sym (every-bit r h))
+chosen-by m k (at i x) empty e r h = rw e (eqb-sym r (x .port) ∙ sym (bit-power (x .port) r))
+
+full-not-found : (port place : ℕ) → Full ≡ Found port place → ⊥
+full-not-found port place q = let z : _≡_ {A = ℕ} 0 1 = cc in omega arith
+
+-- the port that a look-up finds is one of the five
+pub chosen-fits : (m : List ℕ) (gid address : ℕ) → ChosenFits (destinationLookUp m gid address)
+unfolding destinationLookUp
+chosen-fits m gid address =
+    on (isGroup address)
+    (λ e. record { port-there = λ port place q. absurd (full-not-found port place (rw e at q)) })
+    (λ e. record { port-there = λ port place q. let small = port-inside m (key gid address) port place (rw e at q) in omega arith })
 
 -- `m`: address memory
 module _ (links m frame : List ℕ) (port gid : ℕ) (gid-is : factsIn links m port frame .gid ≡ gid)
@@ -81,23 +91,22 @@ module _ (links m frame : List ℕ) (port gid : ℕ) (gid-is : factsIn links m p
   single-whole : isGroup (destination frame) ≡ false → damaged (lookUp m there) ≡ false
   single-whole e = ap damaged (sym (single-look-up e)) ∙ whole
 
-  group-chosen : (d : LookUp) (answer : RuleLookUp) → d ≡ Full → answer ≡ group → (r : ℕ) → isChosen answer r ≡ (eqb (chosenPort d) 5 || eqb (chosenPort d) r)
-  unfolding isChosen chosenPort
-  group-chosen d answer p q r = rw (p, q)
+  group-chosen : (d : LookUp) (answer : RuleLookUp) → d ≡ Full → answer ≡ group → (r : ℕ) → r < 5 → isChosen answer r ≡ bit (chosenMask d) r
+  unfolding isChosen chosenMask
+  group-chosen d answer p q r h = rw (p, q) (sym (every-bit r h))
 
-  single-chosen : isGroup (destination frame) ≡ false → (r : ℕ) → isChosen (ruleLookUp (tableOf m) false there) r
-      ≡ (eqb (chosenPort (lookUp m there)) 5 || eqb (chosenPort (lookUp m there)) r)
+  single-chosen : isGroup (destination frame) ≡ false → (r : ℕ) → r < 5
+      → isChosen (ruleLookUp (tableOf m) false there) r ≡ bit (chosenMask (lookUp m there)) r
   unfolding ruleLookUp
-  single-chosen e r = chosen-by m there (find (tableOf m) there) (emptyFor (tableOf m) there) (look-up-finds m there (single-whole e)) r
+  single-chosen e r h = chosen-by m there (find (tableOf m) there) (emptyFor (tableOf m) there) (look-up-finds m there (single-whole e)) r h
 
   -- "a group address, or one not found, has all members as candidates; one found has its port"
-  pub chosen-is : (r : ℕ) → f .chosen r
-      ≡ (eqb (chosenPort (destinationLookUp m gid (destination frame))) 5 || eqb (chosenPort (destinationLookUp m gid (destination frame))) r)
-  chosen-is r =
+  pub chosen-is : (r : ℕ) → r < 5 → f .chosen r ≡ bit (chosenMask (destinationLookUp m gid (destination frame))) r
+  chosen-is r h =
       ap (λ (c : ℕ → Bool). c r) (facts-chosen links m frame port)
       ∙ on (isGroup (destination frame))
-      (λ e. group-chosen (destinationLookUp m gid (destination frame)) (f .lookUp) (group-look-up e) (group-found e) r)
-      (λ e. rw (single-found e, single-look-up e) (single-chosen e r))
+      (λ e. group-chosen (destinationLookUp m gid (destination frame)) (f .lookUp) (group-look-up e) (group-found e) r h)
+      (λ e. rw (single-found e, single-look-up e) (single-chosen e r h))
 
   -- ---- learning
 

@@ -1,4 +1,5 @@
 pub mod Facts
+pub mod Each
 pub mod Counts
 pub mod Carries
 pub mod Outcomes

@@ -1,50 +1,42 @@
--- A frame past rule 9: the look-ups, the queue and each port's test. Assumes nothing.
+-- A frame past rule 9: the look-ups, the queue and the ports' tests. Assumes nothing.
 use Prim.Native.Nat.{ℕ, _^_, _≤_, _<_}
 use mathlib.Core.Path.{_≡_, refl, sym, ap, _∙_}
-use mathlib.Core.Bool.{Bool, true, false, _&&_, not}
+use mathlib.Core.Bool.{Bool, true, false, not}
 use mathlib.Core.List.{List}
 use native.Mathlib.Omega.{arith}
-use borrow.Author.Tests.{le-leb, lt-leb, lt-ltb}
-use lib.Dec.{leb}
-use lib.ListN.{length, getD}
-use Rattle.rules.specs.Tags.{headerOf, destination, source, addressAt}
-use Rattle.rules.specs.Settings.{Vlan, isLearning}
-use Rattle.rules.specs.PortTests.{portTest}
+use lib.ListN.{length}
+use Rattle.rules.specs.Tags.{tagsOf, destination, source, addressAt}
+use Rattle.rules.specs.Settings.{Vlan, isLearning, queuePcp}
 use Rattle.rules.specs.Addresses.{key}
-use Rattle.rules.specs.Operations.{Operation}
-use Rattle.rules.specs.Arguments.{isVid, operationInRange, bit, vlanInRange, vlanEntry, operationOf}
+use Rattle.rules.specs.Arguments.{bit, vlanEntry}
 use Rattle.rules.specs.Facts.{Facts}
 use Rattle.rules.specs.Outcomes.{frameOf, learns, isNotLearned}
-use Rattle.rules.proofs.Choice.{and-right}
 use Rattle.rules.proofs.Parts.{learns-exactly}
-use Rattle.layout.specs.Places.{mapWord}
-use Rattle.settings.specs.Records.{operationIs, vlanIs}
-use Rattle.settings.specs.SettingsOf.{queuesOf, settingsOf}
-use Rattle.settings.specs.RangeLaws.{vlan-range}
-use Rattle.words.specs.Words.{wordWithin}
-use Rattle.settings.specs.declared.vlan.VlanSettings.{VlanSettings}
-use Rattle.settings.specs.declared.table.Found.the-variants.{Damaged}
-use Rattle.words.specs.declared.word.Word.the-variants.{Within}
-use Rattle.words.specs.declared.word.Word.the-variants as Words
+use Rattle.packed.specs.Ports.{vlanIs, defaultNumber}
+use Rattle.packed.specs.Switches.{isSwitchesWord}
+use Rattle.packed.specs.declared.vlan.VlanSettings.{VlanSettings}
+use Rattle.packed.proofs.MapLaws.{queue-small as map-queue-small}
+use Rattle.packed.proofs.RangeLaws.{vlan-range}
+use Rattle.settings.specs.Records.{statesAt}
+use Rattle.settings.specs.SettingsOf.{mapAt, switchesAt, settingsOf}
 use Rattle.addresses.specs.Numbers.{tableOf}
 use Rattle.addresses.specs.Search.{lookUp, damaged}
 use Rattle.addresses.specs.declared.LookUp.{LookUp}
 use Rattle.addresses.proofs.LookUps.{place-inside}
 use Rattle.frame_rules.specs.declared.arrival.Arrival.{Arrival}
 use Rattle.frame_rules.specs.declared.plan.Lesson.{Lesson}
-use Rattle.frame_rules.specs.declared.plan.Tests.{Tests}
+use Rattle.frame_rules.specs.declared.plan.Masks.{Masks}
 use Rattle.frame_rules.specs.declared.plan.Offer.{Offer}
 use Rattle.frame_rules.specs.Plans.{damagedPlan}
-use Rattle.frame_rules.specs.Stored.{flagNumber, headerWord, operationByte, storedHeader}
-use Rattle.frame_rules.specs.Candidates.{destinationLookUp, chosenPort, numbersOf, numbersAt, anyDamaged}
+use Rattle.frame_rules.specs.Stored.{operationFor, storedHeader}
+use Rattle.frame_rules.specs.Candidates.{destinationLookUp, chosenMask, candidatesIn, masksOf, MasksAre}
 use Rattle.frame_in.specs.Carried.{lessonBy}
-use Rattle.frame_in.specs.Met.{metTests, metMember}
+use Rattle.frame_in.specs.Met.{masksIn, metTests, metMember}
 use Rattle.frame_in.specs.Call.{factsIn, lessonIn, learnedIn}
 use Rattle.frame_in.specs.Judged.{Judged}
 use Rattle.frame_in.specs.Stages.{Member, Tested}
-use Rattle.frame_rules.proofs.States.{header-word}
-use Rattle.frame_rules.proofs.CandidateTests.{within-is, damaged-word}
-use Rattle.frame_rules.proofs.TestNumbers.{numbers-are}
+use Rattle.packed.proofs.PortLaws.{number-back}
+use Rattle.frame_rules.proofs.LinkWords.{queue-is, masks-in}
 use Rattle.frame_in.proofs.Facts.{facts-bytes, facts-default, facts-gid, facts-state, ordinary-queue, ordinary-test}
 use Rattle.frame_in.proofs.Lessons.{chosen-is, destination-place, placed-is, lesson-in}
 use Rattle.frame_in.proofs.Judgements.{damaged-judged}
@@ -55,36 +47,35 @@ twice true = refl
 twice false = refl
 
 module _ (links addresses frame : List ℕ) (n port : ℕ) where
-  queue-of : (pcp : ℕ) → pcp ≤ 7 → settingsOf links .queueOf pcp ≡ getD links (mapWord pcp) 0
-  unfolding settingsOf queuesOf
-  queue-of pcp h = rw (lt-ltb pcp 8 (omega arith))
-
-  module _ (arrival : Arrival) (vlan : VlanSettings) (m : Member links addresses frame n port arrival vlan) where
+  module _ (arrival : Arrival) (vlan : VlanSettings) (operation : ℕ) (m : Member links addresses frame n port arrival vlan operation) where
     abbrev f : Facts
     f = factsIn links addresses port frame
 
-    queue-for : f .queue ≡ getD links (mapWord (arrival .pcp)) 0
-    queue-for = ordinary-queue links addresses frame port (m .ordinary) ∙ ap (settingsOf links .queueOf) (sym (m .arrival-is .pcp)) ∙ queue-of (arrival .pcp) (m .arrival-is .pcp-small)
+    queue-for : arrival .queue ≡ f .queue
+    queue-for =
+        m .arrival-is .queue
+        ∙ sym (queue-is links (queuePcp (settingsOf links .port port .default) (tagsOf frame)) (m .arrival-is .pcp-small))
+        ∙ sym (ordinary-queue links addresses frame port (m .ordinary))
+
+    pub queue-small : arrival .queue ≤ 3
+    queue-small = rw (m .arrival-is .queue) (map-queue-small (mapAt links) (queuePcp (settingsOf links .port port .default) (tagsOf frame)))
+
+    learning-at : arrival .learning ≡ isLearning (f .state)
+    learning-at = m .arrival-is .learning (m .not-barred) ∙ ap isLearning (sym (facts-state links addresses frame port))
 
     gid-is : f .gid ≡ vlan .gid
-    unfolding vlanEntry vlanIs
+    unfolding vlanEntry
     gid-is = facts-gid links addresses frame port ∙ ap (λ (v : Vlan). v .gid) (m .vlan-is)
 
     pub gid-small : vlan .gid ≤ 15
-    unfolding vlanIs
     gid-small = vlan-range (vlanIs vlan) (m .in-range) .gid
 
-    pub operation-good : operationInRange (operationIs (vlan .operation)) ≡ true
-    unfolding vlanInRange vlanIs
-    operation-good = and-right (isVid (vlan .vid) && leb (vlan .members) 31 && leb (vlan .gid) 15) (operationInRange (operationIs (vlan .operation))) (m .in-range)
+    members-small : vlan .members < 32
+    members-small = let m = vlan-range (vlanIs vlan) (m .in-range) .members in omega arith
 
     members-are : (r : ℕ) → f .vlan .member r ≡ bit (vlan .members) r
-    unfolding vlanEntry vlanIs
+    unfolding vlanEntry
     members-are r = ap (λ (v : Vlan). v .member r) (m .vlan-is)
-
-    operation-is : f .vlan .operation ≡ operationOf (operationIs (vlan .operation))
-    unfolding vlanEntry vlanIs
-    operation-is = ap (λ (v : Vlan). v .operation) (m .vlan-is)
 
     module _ (x : ℕ) (x-is : x ≡ addressAt frame 0) (d : LookUp) (d-is : d ≡ destinationLookUp addresses (vlan .gid) x) where
       d-at : d ≡ destinationLookUp addresses (vlan .gid) (destination frame)
@@ -95,7 +86,7 @@ module _ (links addresses frame : List ℕ) (n port : ℕ) where
       d-damaged b e = ap damaged (sym d-at) ∙ e
 
       pub destination-damaged : damaged d ≡ true → Judged links addresses frame n port damagedPlan
-      unfolding metMember vlanIs
+      unfolding metMember
       destination-damaged e = damaged-judged links addresses frame n port (m .way .lent) (m .way .meets-is ∙ rw (d-damaged true e))
 
       module _ (whole : damaged d ≡ false) (y : ℕ) (y-is : y ≡ addressAt frame 6) (k : ℕ) (k-is : k ≡ key (vlan .gid) y) (g : LookUp) (g-is : g ≡ lookUp addresses k) where
@@ -110,96 +101,85 @@ module _ (links addresses frame : List ℕ) (n port : ℕ) where
         g-damaged b e = ap damaged (sym g-at) ∙ e
 
         pub source-damaged : damaged g ≡ true → Judged links addresses frame n port damagedPlan
-        unfolding metMember vlanIs
+        unfolding metMember
         source-damaged e = damaged-judged links addresses frame n port (m .way .lent) (m .way .meets-is ∙ rw (d-damaged false whole, g-damaged true e))
 
         module _ (sound : damaged g ≡ false) where
-          pub queue-damaged : Words.Damaged ≡ wordWithin links (mapWord (arrival .pcp)) 3 → Judged links addresses frame n port damagedPlan
-          unfolding metMember vlanIs
-          queue-damaged w =
-              damaged-judged links addresses frame n port (m .way .lent)
-              (m .way .meets-is
-              ∙ rw (d-damaged false whole, g-damaged false sound, queue-for, lt-leb (getD links (mapWord (arrival .pcp)) 0) 3 (damaged-word links (mapWord (arrival .pcp)) 3 w)))
+          module _ (switches : ℕ) (switches-are : switches ≡ switchesAt links) where
+            pub switches-damaged : isSwitchesWord switches ≡ false → Judged links addresses frame n port damagedPlan
+            unfolding metMember
+            switches-damaged e =
+                damaged-judged links addresses frame n port (m .way .lent)
+                (m .way .meets-is ∙ rw (d-damaged false whole, g-damaged false sound, ap isSwitchesWord (sym switches-are) ∙ e))
 
-          module _ (queue : ℕ) (word : Within queue ≡ wordWithin links (mapWord (arrival .pcp)) 3) where
-            queue-at : queue ≡ f .queue
-            queue-at = within-is links (mapWord (arrival .pcp)) 3 queue word .word ∙ sym queue-for
-
-            pub queue-small : queue ≤ 3
-            queue-small = let w = within-is links (mapWord (arrival .pcp)) 3 queue word in omega (arith, w .word, w .small)
-
-            module _ (c : ℕ) (c-is : c ≡ chosenPort d) (t : Tests) (t-is : t ≡ numbersAt links (vlan .members) c port queue) where
+            module _ (good : isSwitchesWord switches ≡ true) (c : ℕ) (c-is : c ≡ chosenMask d) (k′ : ℕ) (k′-is : k′ ≡ candidatesIn (vlan .members) c port)
+                (states : ℕ) (states-are : states ≡ statesAt links) (t : Masks) (t-is : t ≡ masksOf k′ states switches (arrival .queue)) where
               abbrev chosen : ℕ
-              chosen = chosenPort (destinationLookUp addresses (vlan .gid) (destination frame))
+              chosen = chosenMask (destinationLookUp addresses (vlan .gid) (destination frame))
 
-              t-at : t ≡ numbersAt links (vlan .members) chosen port queue
-              t-at = t-is ∙ ap (λ (z : ℕ). numbersAt links (vlan .members) z port queue) (c-is ∙ ap chosenPort d-at)
+              t-at : t ≡ masksIn links addresses port frame (vlanIs vlan)
+              unfolding masksIn
+              t-at = t-is ∙ rw (k′-is, c-is, d-at, states-are, switches-are, queue-for)
 
-              tests-meet : metMember links addresses port frame (vlanIs vlan) ≡ metTests links addresses port frame queue t
-              unfolding metMember vlanIs
+              tests-meet : metMember links addresses port frame (vlanIs vlan) ≡ metTests links addresses port frame t
+              unfolding metMember
               tests-meet =
-                  rw (d-damaged false whole, g-damaged false sound, ← queue-at, le-leb queue 3 queue-small)
-                  (ap (metTests links addresses port frame queue) (sym t-at))
+                  rw (d-damaged false whole, g-damaged false sound, ap isSwitchesWord (sym switches-are) ∙ good)
+                  (ap (metTests links addresses port frame) (sym t-at))
 
-              tests-right : anyDamaged t ≡ false → t ≡ numbersOf (f .test)
-              tests-right e =
-                  t-at
-                  ∙ numbers-are links (vlan .members) chosen port queue (f .vlan) (f .chosen) (omega (arith, queue-small)) members-are
-                  (λ r h. chosen-is links addresses frame port (vlan .gid) gid-is (d-damaged false whole) r) (ap anyDamaged (sym t-at) ∙ e)
-                  ∙ ap (λ (q : ℕ). numbersOf (portTest (settingsOf links) (f .vlan) (f .chosen) port q)) queue-at
-                  ∙ ap numbersOf (sym (ordinary-test links addresses frame port (m .ordinary)))
+              masks-right : MasksAre (f .test) t
+              unfolding masksIn
+              masks-right =
+                  rw (ordinary-test links addresses frame port (m .ordinary), t-at, ← queue-for)
+                  (masks-in links (f .vlan) (f .chosen) port (arrival .queue) (vlan .members) chosen members-small queue-small members-are
+                  (λ r h. chosen-is links addresses frame port (vlan .gid) gid-is (d-damaged false whole) r h))
 
-              module _ (op h : ℕ) (op-is : op ≡ operationByte (operationOf (operationIs (vlan .operation)))) (h-is : headerOf h ≡ operationOf (operationIs (vlan .operation)) .header) where
-                abbrev lesson-made : Lesson
-                lesson-made = record { learns = true; destination = d; source = g; key = k }
+              abbrev lesson-made : Lesson
+              lesson-made = record { learns = true; destination = d; source = g; key = k }
 
-                abbrev offer-made : Offer
-                offer-made = record { tests = t; queue = queue; header = record { length = length frame; default = arrival .default; operation = op; exempt = 0; header = h } }
+              abbrev offer-made : Offer
+              offer-made =
+                  record { masks = t; queue = arrival .queue; header = record { length = length frame; default = arrival .default; operation = operation } }
 
-                default-word : arrival .default ≡ headerWord (f .default)
-                default-word = header-word (arrival .default) ∙ ap headerWord (m .arrival-is .default ∙ sym (facts-default links addresses frame port))
+              default-number : arrival .default ≡ defaultNumber (f .default)
+              default-number =
+                  sym (number-back (arrival .default)) ∙ ap defaultNumber (m .arrival-is .default ∙ sym (facts-default links addresses frame port))
 
-                op-at : op ≡ operationByte (f .vlan .operation)
-                op-at = op-is ∙ ap operationByte (sym operation-is)
+              header-made : offer-made .header ≡ storedHeader (operationFor links (f .vid)) (frameOf f)
+              unfolding storedHeader frameOf
+              header-made = rw (m .ordinary, facts-bytes links addresses frame port, default-number, m .operation-is)
 
-                h-at : h ≡ headerWord (f .vlan .operation .header)
-                h-at = header-word h ∙ ap headerWord (h-is ∙ ap (λ (z : Operation). z .header) (sym operation-is))
+              learns-it : learns f ≡ true
+              learns-it = learns-exactly f .1 (m .ordinary, record { read = m .way .read; entered = λ _. m .entered })
 
-                header-made : offer-made .header ≡ storedHeader (frameOf f)
-                unfolding storedHeader frameOf flagNumber
-                header-made = rw (m .ordinary, facts-bytes links addresses frame port, default-word, op-at, h-at)
+              learned-made : learnedIn links addresses port frame ≡ lessonIn addresses (vlan .gid) port frame .1
+              unfolding learnedIn
+              learned-made = rw (learns-it, gid-is)
 
-                learns-it : learns f ≡ true
-                learns-it = learns-exactly f .1 (m .ordinary, record { read = m .way .read; entered = λ _. m .entered })
+              not-learned : not (lessonIn addresses (vlan .gid) port frame .0) ≡ isNotLearned f (tableOf addresses)
+              unfolding isNotLearned
+              not-learned =
+                  rw (learns-it, placed-is links addresses frame port (vlan .gid) gid-is (d-damaged false whole) (m .way .lent .places) (g-damaged false sound)) (twice _)
 
-                learned-made : learnedIn links addresses port frame ≡ lessonIn addresses (vlan .gid) port frame .1
-                unfolding learnedIn
-                learned-made = rw (learns-it, gid-is)
+              lesson-right : lessonBy lesson-made port addresses
+                  ≡ (isNotLearned f (tableOf addresses), learnedIn links addresses port frame)
+              lesson-right =
+                  lesson-in lesson-made port addresses (vlan .gid) frame refl g-at k-at d-at
+                  ∙ rw (not-learned, sym learned-made)
 
-                not-learned : not (lessonIn addresses (vlan .gid) port frame .0) ≡ isNotLearned f (tableOf addresses)
-                unfolding isNotLearned
-                not-learned =
-                    rw (learns-it, placed-is links addresses frame port (vlan .gid) gid-is (d-damaged false whole) (m .way .lent .places) (g-damaged false sound)) (twice _)
-
-                lesson-right : lessonBy lesson-made port addresses
-                    ≡ (isNotLearned f (tableOf addresses), learnedIn links addresses port frame)
-                lesson-right =
-                    lesson-in lesson-made port addresses (vlan .gid) frame refl g-at k-at d-at
-                    ∙ rw (not-learned, sym learned-made)
-
-                pub as-tested : k < 2 ^ 52 → Tested links addresses frame n port (arrival .learning) lesson-made offer-made
-                as-tested small =
-                    record {
-                      way = way-on links addresses frame n port (m .way) tests-meet;
-                      ordinary = m .ordinary;
-                      entered = m .entered;
-                      learning-is = m .arrival-is .learning ∙ ap isLearning (sym (facts-state links addresses frame port));
-                      tests-are = tests-right;
-                      queue-is = queue-at;
-                      queue-small = queue-small;
-                      header-is = header-made;
-                      key-small = small;
-                      destination-there = rw d-at (destination-place links addresses frame port (vlan .gid) gid-is (d-damaged false whole) (m .way .lent .places));
-                      source-there = rw g-at (place-inside addresses (key (vlan .gid) (source frame)));
-                      lesson-is = lesson-right;
-                    }
+              pub as-tested : k < 2 ^ 52 → Tested links addresses frame n port (arrival .learning) lesson-made offer-made
+              as-tested small =
+                  record {
+                    way = way-on links addresses frame n port (m .way) tests-meet;
+                    ordinary = m .ordinary;
+                    entered = m .entered;
+                    learning-is = learning-at;
+                    masks-are = masks-right;
+                    queue-is = queue-for;
+                    queue-small = queue-small;
+                    header-is = header-made;
+                    key-small = small;
+                    destination-there = rw d-at (destination-place links addresses frame port (vlan .gid) gid-is (d-damaged false whole) (m .way .lent .places));
+                    source-there = rw g-at (place-inside addresses (key (vlan .gid) (source frame)));
+                    lesson-is = lesson-right;
+                  }

@@ -19,15 +19,14 @@ use Rattle.lent.specs.Answers.{doneWith}
 use Rattle.addresses.specs.Numbers.{tableOf}
 use Rattle.cells.specs.Free.{firstFree, taken}
 use Rattle.frame_rules.specs.declared.plan.Plan.{Plan}
-use Rattle.frame_rules.specs.Stored.{storedHeader}
-use Rattle.frame_rules.specs.Candidates.{numbersOf}
-use Rattle.frame_rules.specs.Room.{leftMask}
-use Rattle.frame_in.specs.Carried.{countedTests, countedQueued, countIf, countedOutcome, countedBy, joinedAt, joinedBy, storedAt, storedBy, lessonBy, carriedOut}
+use Rattle.frame_rules.specs.Stored.{operationFor, storedHeader}
+use Rattle.frame_rules.specs.Candidates.{portsIn, MasksAre}
+use Rattle.frame_in.specs.Carried.{countedFalls, countIf, countedOutcome, countedBy, joinedAt, joinedBy, storedAt, storedBy, lessonBy, carriedOut}
 use Rattle.words.specs.Counters.{bumped}
 use Rattle.frame_in.specs.Counting.{counted}
 use Rattle.frame_in.specs.Call.{Memories, factsIn, storedFor, joinedFor, learnedIn, answerFor, entered}
 use Rattle.frame_in.proofs.Facts.{facts-bytes, facts-port}
-use Rattle.frame_in.proofs.Counts.{queued-counted, pushed-tests, left-is, events-counted}
+use Rattle.frame_in.proofs.Counts.{queued-counted, pushed-each, left-is, events-counted}
 
 parts : {a a′ : Answer} {b b′ c c′ d d′ : List ℕ} → a ≡ a′ → b ≡ b′ → c ≡ c′ → d ≡ d′ → _≡_ {A = Answer × Memories} (a, (b, c, d)) (a′, (b′, c′, d′))
 parts p q r s = cc
@@ -49,7 +48,7 @@ not-zero noPortLeft = refl
 not-zero noRoom = refl
 
 module _ (links addresses frame : List ℕ) (n port : ℕ) (plan : Plan)
-    (tests-are : (l : List ℕ) → counted (candidateEvents (factsIn links addresses port frame)) l ≡ countedTests (plan .tests) l)
+    (tests-are : (l : List ℕ) → counted (candidateEvents (factsIn links addresses port frame)) l ≡ countedFalls (plan .masks) l)
     (lesson-is : lessonBy (plan .lesson) port addresses ≡ (isNotLearned (factsIn links addresses port frame) (tableOf addresses), learnedIn links addresses port frame)) where
   abbrev f : Facts
   f = factsIn links addresses port frame
@@ -61,7 +60,7 @@ module _ (links addresses frame : List ℕ) (n port : ℕ) (plan : Plan)
   events l = counted (frameInEvents f (isNotLearned f (tableOf addresses))) l
 
   abbrev so-far : List ℕ → List ℕ
-  so-far l = countedTests (plan .tests) (countIf unlearned port (bumped port 0 l))
+  so-far l = countedFalls (plan .masks) (countIf unlearned port (bumped port 0 l))
 
   before-outcome : (o : Outcome) → outcomeOf f ≡ o → (l : List ℕ) → events l ≡ counted (outcomeEvents port o) (so-far l)
   before-outcome o e l =
@@ -70,7 +69,7 @@ module _ (links addresses frame : List ℕ) (n port : ℕ) (plan : Plan)
       (facts-port links addresses frame port) e
       ∙ ap (counted (outcomeEvents port o))
       (tests-are (countIf (isNotLearned f (tableOf addresses)) port (bumped port 0 l))
-      ∙ ap (λ (b : Bool). countedTests (plan .tests) (countIf b port (bumped port 0 l))) (sym (ap (λ (p : Bool × List ℕ). p .0) lesson-is)))
+      ∙ ap (λ (b : Bool). countedFalls (plan .masks) (countIf b port (bumped port 0 l))) (sym (ap (λ (p : Bool × List ℕ). p .0) lesson-is)))
 
   learned-is : lessonBy (plan .lesson) port addresses .1 ≡ learnedIn links addresses port frame
   learned-is = ap (λ (p : Bool × List ℕ). p .1) lesson-is
@@ -85,16 +84,16 @@ module _ (links addresses frame : List ℕ) (n port : ℕ) (plan : Plan)
     unfolding answerFor
     drop-answer = rw (outcome, reason-is, none-left)
 
-    drop-stored : (memory : List ℕ) → storedBy plan memory links frame ≡ storedFor (outcomeOf f) links memory
+    drop-stored : (memory : List ℕ) → storedBy n plan memory links frame ≡ storedFor (cellCount links) (operationFor links (f .vid)) (outcomeOf f) links memory
     unfolding storedBy storedFor
     drop-stored memory = rw (outcome, dropped)
 
-    drop-counts : (l : List ℕ) → countedOutcome port (plan .reason) (plan .tests) (so-far l) ≡ counted (outcomeEvents port (drops r)) (so-far l)
+    drop-counts : (l : List ℕ) → countedOutcome port (plan .reason) (plan .left) (so-far l) ≡ counted (outcomeEvents port (drops r)) (so-far l)
     unfolding countedOutcome outcomeEvents counted counterNumber
     drop-counts l = rw dropped (ap (λ (k : ℕ). bumped port k (so-far l)) reason-is)
 
     drop-links : countedBy port unlearned plan (joinedBy n plan frame links) ≡ events (joinedFor (cellCount links) (outcomeOf f) links)
-    unfolding countedBy joinedBy joinedFor
+    unfolding countedBy joinedBy joinedFor counterNumber
     drop-links = rw (outcome, dropped) (drop-counts links ∙ sym (before-outcome (drops r) outcome links))
 
     pub dropped-carried : (memory : List ℕ) → carriedOut n plan port frame memory links addresses ≡ entered port frame memory links addresses
@@ -103,11 +102,14 @@ module _ (links addresses frame : List ℕ) (n port : ℕ) (plan : Plan)
 
   -- ---- queued
 
-  module _ (outcome : outcomeOf f ≡ queues (frameOf f) (portsLeft (f .test))) (reason-is : plan .reason ≡ 0) (numbers-are : plan .tests ≡ numbersOf (f .test))
-      (left-are : plan .left ≡ leftMask (plan .tests)) (queue-is : plan .queue ≡ f .queue) (header-is : plan .header ≡ storedHeader (frameOf f))
+  module _ (outcome : outcomeOf f ≡ queues (frameOf f) (portsLeft (f .test))) (reason-is : plan .reason ≡ 0) (masks-are : MasksAre (f .test) (plan .masks))
+      (left-are : plan .left ≡ plan .masks .left) (queue-is : plan .queue ≡ f .queue) (header-is : plan .header ≡ storedHeader (operationFor links (f .vid)) (frameOf f))
       (count-is : n ≡ cellCount links) where
     taken-left : plan .left ≡ mask (portsLeft (f .test))
-    taken-left = left-are ∙ ap leftMask numbers-are ∙ sym (left-is (f .test))
+    taken-left = left-are ∙ sym (left-is (f .test) (plan .masks) masks-are)
+
+    ports-are : portsIn (plan .left) ≡ portsLeft (f .test)
+    ports-are = ap portsIn left-are ∙ masks-are .left
 
     bytes-are : frameOf f .packet .bytes ≡ frame
     unfolding frameOf
@@ -125,24 +127,23 @@ module _ (links addresses frame : List ℕ) (n port : ℕ) (plan : Plan)
     unfolding answerFor
     queue-answer = rw (outcome, reason-is, taken-left)
 
-    queue-stored : (memory : List ℕ) → storedBy plan memory links frame ≡ storedFor (outcomeOf f) links memory
+    queue-stored : (memory : List ℕ) → storedBy n plan memory links frame ≡ storedFor (cellCount links) (operationFor links (f .vid)) (outcomeOf f) links memory
     unfolding storedBy storedAt storedFor
-    queue-stored memory = rw (outcome, reason-is, size-is, header-is, bytes-are)
+    queue-stored memory = rw (outcome, reason-is, size-is, header-is, bytes-are, count-is)
 
     queue-joined : joinedBy n plan frame links ≡ joinedFor (cellCount links) (outcomeOf f) links
     unfolding joinedBy joinedAt joinedFor
     queue-joined =
-        rw (outcome, reason-is, size-is, numbers-are, taken-left, queue-at, count-is)
-        (sym (pushed-tests (f .test) (cellCount links) (frameOf f .queue) (firstFree links) (taken (cells (length frame)) (mask (portsLeft (f .test))) links)))
+        rw (outcome, reason-is, size-is, ports-are, taken-left, queue-at, count-is)
+        (sym (pushed-each (cellCount links) (frameOf f .queue) (firstFree links) (portsLeft (f .test)) (taken (cellCount links) (cells (length frame)) (mask (portsLeft (f .test))) links)))
 
-    queue-counts : (l : List ℕ) → countedOutcome port (plan .reason) (plan .tests) (so-far l) ≡ counted (outcomeEvents port (queues (frameOf f) (portsLeft (f .test)))) (so-far l)
+    queue-counts : (l : List ℕ) → countedOutcome port (plan .reason) (plan .left) (so-far l) ≡ counted (outcomeEvents port (queues (frameOf f) (portsLeft (f .test)))) (so-far l)
     unfolding countedOutcome outcomeEvents counted counterNumber
     queue-counts l =
-        rw reason-is
-        (ap (λ (t : _). countedQueued t (bumped port 14 (so-far l))) numbers-are ∙ sym (queued-counted (f .test) (frameOf f) (bumped port 14 (so-far l))))
+        rw (reason-is, ports-are) (sym (queued-counted (frameOf f) (portsLeft (f .test)) (bumped port 14 (so-far l))))
 
     queue-links : countedBy port unlearned plan (joinedBy n plan frame links) ≡ events (joinedFor (cellCount links) (outcomeOf f) links)
-    unfolding countedBy
+    unfolding countedBy counterNumber
     queue-links =
         queue-counts (joinedBy n plan frame links)
         ∙ sym (before-outcome (queues (frameOf f) (portsLeft (f .test))) outcome (joinedBy n plan frame links))

@@ -12,7 +12,7 @@ use Rattle.rules.proofs.Choice.{and-left, and-right}
 use Rattle.layout.specs.Places.{linkWords, cellBytes}
 use Rattle.lent.specs.declared.Answer.{Answer}
 use Rattle.lent.specs.Lengths.{cellCount, linksFit, cellsFit, addressesFit}
-use Rattle.lent.specs.Fits.{links-fit, cells-fit, addresses-fit}
+use Rattle.lent.proofs.Fits.{links-fit, cells-fit, addresses-fit}
 use Rattle.frame_rules.specs.declared.plan.Plan.{Plan}
 use Rattle.frame_in.specs.Carried.{carriedOut, Ready}
 use Rattle.frame_in.specs.Met.{met}

@@ -1,48 +1,49 @@
 -- From stage to stage of the judgement, and the outcomes of each. Assumes nothing.
 use Prim.Native.Nat.{ℕ, _≤_, _<_}
-use mathlib.Core.Path.{_≡_, refl, sym, ap, subst, _∙_}
+use mathlib.Core.Path.{_≡_, refl, sym, ap, _∙_}
 use mathlib.Core.Bool.{Bool, true, false, _&&_, not, true≢false}
 use mathlib.Core.List.{List}
 use mathlib.Core.Option.{Option, none, some}
 use native.Mathlib.Omega.{arith}
-use borrow.Author.Tests.{ltb-false, le-leb, lt-leb}
+use borrow.Author.Tests.{ltb-false}
 use lib.Dec.{eqb, ltb}
 use lib.ListN.{length, getD}
 use Rattle.rules.specs.Choice.{if_then_else_, sift}
 use Rattle.rules.specs.Lines.{first}
-use Rattle.rules.specs.Tags.{headerOf, destination}
+use Rattle.rules.specs.Numbers.{managementPort, bpduAddress}
+use Rattle.rules.specs.Tags.{destination}
 use Rattle.rules.specs.Reasons.{Reason, reasonNumber}
-use Rattle.rules.specs.Settings.{Port, noOperation}
-use Rattle.rules.specs.Arguments.{flag, portInRange, portOf}
+use Rattle.rules.specs.Settings.{Port}
+use Rattle.rules.specs.Arguments.{OperationNumbers, portOf}
 use Rattle.rules.specs.Facts.{Facts, isBpdu}
 use Rattle.rules.specs.ReasonTable.{reading, partNumber, reasonTable, linesIn, rowsOf}
 use Rattle.rules.specs.Outcomes.{frameOf, countsTests}
 use Rattle.rules.proofs.Choice.{on}
 use Rattle.rules.proofs.Parts.{reason-reading, reason-bpdu, read-stops, counts-then, bpdu-learns-nothing}
 use Rattle.machine.specs.CountTheorems.{outcomeNumber}
-use Rattle.layout.specs.Places.{bpduWord}
-use Rattle.settings.specs.Records.{portIs, portAt}
-use Rattle.settings.specs.SettingsOf.{settingsOf, bpduOf}
-use Rattle.words.specs.Words.{wordWithin}
-use Rattle.settings.specs.declared.port.PortSettings.{PortSettings}
-use Rattle.settings.specs.declared.table.Found.the-variants.{Damaged}
-use Rattle.words.specs.declared.word.Word.the-variants.{Within}
-use Rattle.words.specs.declared.word.Word.the-variants as Words
+use Rattle.layout.specs.Places.{portWord, portOperationWord}
+use Rattle.packed.specs.Operations.{operationIn, operationEnd}
+use Rattle.packed.specs.Ports.{isVidWord, portIn, defaultIn, defaultOf, defaultNumber}
+use Rattle.packed.specs.States.{isStatesWord, stateIn}
+use Rattle.packed.specs.Switches.{isSwitchesWord}
+use Rattle.packed.specs.Maps.{isMapWord, bpduIn}
+use Rattle.packed.specs.Settings.{portOfWords}
+use Rattle.settings.specs.Records.{statesAt}
+use Rattle.settings.specs.SettingsOf.{mapAt, switchesAt, settingsOf}
 use Rattle.frame_rules.specs.declared.arrival.Arrival.{Arrival}
-use Rattle.frame_rules.specs.declared.plan.Tests.{Tests}
+use Rattle.frame_rules.specs.declared.plan.Masks.{Masks}
 use Rattle.frame_rules.specs.declared.plan.Offer.{Offer}
 use Rattle.frame_rules.specs.Plans.{noLesson, damagedPlan, dropPlan}
-use Rattle.frame_rules.specs.Stored.{kindNumber, typeNumber, sourceNumber, flagNumber, headerWord, operationByte, storedHeader}
+use Rattle.frame_rules.specs.Stored.{operationFor, storedHeader}
 use Rattle.frame_rules.specs.Arrivals.{ArrivalIs}
-use Rattle.frame_rules.specs.Candidates.{numbersOf, bpduNumbers, anyDamaged}
+use Rattle.frame_rules.specs.Candidates.{everyPort, managementMask, masksOf, MasksAre}
 use Rattle.frame_rules.specs.Room.{metRoom, planOffered}
-use Rattle.frame_in.specs.Met.{unlessDropped, metFrame, metBpdu, metPort, met}
+use Rattle.frame_in.specs.Met.{unlessDropped, bpduMasks, metEntering, metFrame, metBpdu, metPort, met}
 use Rattle.frame_in.specs.Call.{factsIn}
 use Rattle.frame_in.specs.Judged.{Lent, Judged, Way}
-use Rattle.frame_in.specs.Stages.{PastEarly, AsBpdu, Ordinary}
-use Rattle.frame_rules.proofs.States.{header-word}
-use Rattle.frame_rules.proofs.CandidateTests.{within-is, damaged-word}
-use Rattle.frame_rules.proofs.TestNumbers.{port-is, bpdu-numbers-are}
+use Rattle.frame_in.specs.Stages.{PastEarly, AsBpdu, NoBpdu, Ordinary}
+use Rattle.packed.proofs.PortLaws.{default-in, number-back}
+use Rattle.frame_rules.proofs.LinkWords.{port-is, handling-is, bpdu-masks-in}
 use Rattle.frame_in.proofs.Facts.{facts-bytes, facts-default, facts-bpdu, bpdu-queue, bpdu-test}
 use Rattle.frame_in.proofs.Judgements.{never-zero, damaged-judged, nothing-taught, offer-judged, drop-judged}
 
@@ -58,10 +59,6 @@ onReason (some r) k e h f = f r refl e
 pub no-reason : (o : Option Reason) (k : ℕ) → k ≡ outcomeNumber o → k ≤ 0 → o ≡ none
 no-reason none k e h = refl
 no-reason (some r) k e h = absurd (never-zero r (sym e ∙ omega arith))
-
-zero-word : headerWord (record { pcp = 0; dei = 0; vid = 0 }) ≡ 0
-unfolding headerWord
-zero-word = refl
 
 -- ---- a frame that is past the reasons 1 to 3 has a length between
 
@@ -124,88 +121,120 @@ module _ (links addresses frame : List ℕ) (n port : ℕ) where
 
   -- ---- the arrival port, and BPDUs
 
-  module _ (p : PastEarly links addresses frame n port) (settings : PortSettings) (read : portIs settings ≡ portAt links port) where
-    pub port-damaged : portInRange (portIs settings) ≡ false → Judged links addresses frame n port damagedPlan
+  module _ (p : PastEarly links addresses frame n port) (word : ℕ) (word-is : word ≡ getD links (portWord port) 0) where
+    pub port-damaged : isVidWord word ≡ false → Judged links addresses frame n port damagedPlan
     unfolding metPort
     port-damaged e =
-        damaged-judged links addresses frame n port (p .way .lent) (p .way .meets-is ∙ rw (ap portInRange (sym read) ∙ e))
+        damaged-judged links addresses frame n port (p .way .lent) (p .way .meets-is ∙ rw (ap isVidWord (sym word-is) ∙ e))
 
-    pub handling-damaged : portInRange (portIs settings) ≡ true → Words.Damaged ≡ wordWithin links bpduWord 1 → Judged links addresses frame n port damagedPlan
-    unfolding metPort
-    handling-damaged e w =
-        damaged-judged links addresses frame n port (p .way .lent)
-        (p .way .meets-is ∙ rw (ap portInRange (sym read) ∙ e, lt-leb (getD links bpduWord 0) 1 (damaged-word links bpduWord 1 w)))
-
-    settings-are : settingsOf links .port port ≡ portOf (portIs settings)
-    settings-are = port-is links port (omega (arith, p .way .lent .port-there)) ∙ ap portOf (sym read)
-
-    module _ (good : portInRange (portIs settings) ≡ true) (handling : ℕ) (word : Within handling ≡ wordWithin links bpduWord 1) where
-      bpdu-is : f .bpdu ≡ (flag handling && not (eqb port 4) && eqb (destination frame) 0x0180_C200_0000)
-      unfolding isBpdu settingsOf bpduOf
-      bpdu-is = facts-bpdu links addresses frame port ∙ ap (λ (x : ℕ). flag x && not (eqb port 4) && eqb (destination frame) 0x0180_C200_0000) (sym (within-is links bpduWord 1 handling word .word))
-
-      port-meets : metPort links addresses port frame ≡ (if f .bpdu then metBpdu links frame else metFrame links addresses port frame)
+    module _ (good : isVidWord word ≡ true) (map : ℕ) (map-is : map ≡ mapAt links) where
+      pub map-damaged : isMapWord map ≡ false → Judged links addresses frame n port damagedPlan
       unfolding metPort
-      port-meets = rw (ap portInRange (sym read) ∙ good, le-leb (getD links bpduWord 0) 1 (within-is links bpduWord 1 handling word .small))
+      map-damaged e =
+          damaged-judged links addresses frame n port (p .way .lent)
+          (p .way .meets-is ∙ rw (ap isVidWord (sym word-is) ∙ good, ap isMapWord (sym map-is) ∙ e))
 
-      module _ (b : Bool) (test : b ≡ (flag handling && not (eqb port 4) && eqb (destination frame) 0x0180_C200_0000)) where
-        is-b : (x : Bool) → b ≡ x → f .bpdu ≡ x
-        is-b x e = bpdu-is ∙ sym test ∙ e
+      module _ (mapped : isMapWord map ≡ true) (b : Bool) (test : b ≡ (bpduIn map && not (eqb port managementPort) && eqb (destination frame) bpduAddress)) where
+        bpdu-is : f .bpdu ≡ b
+        unfolding isBpdu
+        bpdu-is =
+            facts-bpdu links addresses frame port
+            ∙ ap (λ (x : Bool). x && not (eqb port managementPort) && eqb (destination frame) bpduAddress) (handling-is links ∙ ap bpduIn (sym map-is))
+            ∙ sym test
 
-        pub as-bpdu : (default : ℕ) → headerOf default ≡ portOf (portIs settings) .default → b ≡ true → AsBpdu links addresses frame n port default
+        port-meets : metPort links addresses port frame ≡ (if f .bpdu then metBpdu links frame else metFrame links addresses port frame)
+        unfolding metPort
+        port-meets = rw (ap isVidWord (sym word-is) ∙ good, ap isMapWord (sym map-is) ∙ mapped)
+
+        pub as-bpdu : (default : ℕ) → default ≡ defaultIn word → b ≡ true → AsBpdu links addresses frame n port default
         as-bpdu default d e =
             record {
-              way = way-on (p .way) (port-meets ∙ rw (is-b true e));
-              bpdu = is-b true e;
-              default-is = d ∙ ap (λ (x : Port). x .default) (sym settings-are);
+              way = way-on (p .way) (port-meets ∙ rw (bpdu-is ∙ e));
+              bpdu = bpdu-is ∙ e;
+              default-is = ap defaultOf d
+                  ∙ default-in (stateIn (statesAt links) port) (operationIn (getD links (portOperationWord port) 0)) word
+                  ∙ ap (λ (w : ℕ). portOf (portOfWords (statesAt links) w (getD links (portOperationWord port) 0) port) .default) word-is
+                  ∙ ap (λ (x : Port). x .default) (sym (port-is links port (omega (arith, p .way .lent .port-there))));
             }
 
-        pub as-ordinary : (arrival : Arrival) → ArrivalIs (portOf (portIs settings)) frame arrival → b ≡ false → Ordinary links addresses frame n port arrival
-        as-ordinary arrival a e =
+        pub no-bpdu : b ≡ false → NoBpdu links addresses frame n port word map
+        no-bpdu e =
             record {
-              way = way-on (p .way) (port-meets ∙ rw (is-b false e));
-              ordinary = is-b false e;
-              arrival-is = subst (λ (x : Port). ArrivalIs x frame arrival) (sym settings-are) a;
+              way = way-on (p .way) (port-meets ∙ rw (bpdu-is ∙ e));
+              ordinary = bpdu-is ∙ e;
+              word-is = word-is;
+              map-is = map-is;
+              in-range = good;
             }
+
+  -- ---- an ordinary frame: the states
+
+  module _ (word map : ℕ) (o : NoBpdu links addresses frame n port word map) (states : ℕ) (states-are : states ≡ statesAt links) where
+    pub states-damaged : isStatesWord states ≡ false → Judged links addresses frame n port damagedPlan
+    unfolding metFrame
+    states-damaged e =
+        damaged-judged links addresses frame n port (o .way .lent) (o .way .meets-is ∙ rw (ap isStatesWord (sym states-are) ∙ e))
+
+    entering-meets : isStatesWord states ≡ true → metFrame links addresses port frame ≡ metEntering links addresses port frame
+    unfolding metFrame
+    entering-meets e = rw (ap isStatesWord (sym states-are) ∙ e)
+
+    -- what the port's words give is what the settings say
+    arrival-at : (arrival : Arrival) → ((x : OperationNumbers) → ArrivalIs (portOf (portIn (stateIn states port) x word)) map frame arrival)
+        → ArrivalIs (settingsOf links .port port) (mapAt links) frame arrival
+    arrival-at arrival a =
+        rw (port-is links port (omega (arith, o .way .lent .port-there)), ← o .word-is, ← o .map-is, ← states-are)
+        (a (operationIn (getD links (portOperationWord port) 0)))
+
+    pub as-ordinary : isStatesWord states ≡ true → (arrival : Arrival)
+        → ((x : OperationNumbers) → ArrivalIs (portOf (portIn (stateIn states port) x word)) map frame arrival) → Ordinary links addresses frame n port arrival
+    as-ordinary e arrival a =
+        record { way = way-on (o .way) (entering-meets e); ordinary = o .ordinary; arrival-is = arrival-at arrival a }
 
   -- ---- a BPDU
 
-  module _ (default : ℕ) (a : AsBpdu links addresses frame n port default) (t : Tests) (tests-are : t ≡ bpduNumbers links) where
-    pub bpdu-damaged : anyDamaged t ≡ true → Judged links addresses frame n port damagedPlan
+  module _ (default : ℕ) (a : AsBpdu links addresses frame n port default) (switches : ℕ) (switches-are : switches ≡ switchesAt links) where
+    pub switches-damaged : isSwitchesWord switches ≡ false → Judged links addresses frame n port damagedPlan
     unfolding metBpdu
-    bpdu-damaged e =
-        damaged-judged links addresses frame n port (a .way .lent) (a .way .meets-is ∙ rw (ap anyDamaged (sym tests-are) ∙ e))
+    switches-damaged e =
+        damaged-judged links addresses frame n port (a .way .lent) (a .way .meets-is ∙ rw (ap isSwitchesWord (sym switches-are) ∙ e))
 
-    abbrev bpduOffer : Offer
-    bpduOffer = record { tests = t; queue = 3; header = record { length = length frame; default = default; operation = 160; exempt = 1; header = 0 } }
+    module _ (good : isSwitchesWord switches ≡ true) (m : Masks) (masks-are : m ≡ masksOf managementMask everyPort switches 3) where
+      abbrev bpduOffer : Offer
+      bpduOffer = record { masks = m; queue = 3; header = record { length = length frame; default = default; operation = operationEnd } }
 
-    bpdu-default : default ≡ headerWord (f .default)
-    bpdu-default = header-word default ∙ ap headerWord (a .default-is ∙ sym (facts-default links addresses frame port))
+      bpdu-default : default ≡ defaultNumber (f .default)
+      bpdu-default = sym (number-back default) ∙ ap defaultNumber (a .default-is ∙ sym (facts-default links addresses frame port))
 
-    bpdu-header : bpduOffer .header ≡ storedHeader (frameOf f)
-    unfolding storedHeader frameOf noOperation operationByte kindNumber typeNumber sourceNumber flagNumber
-    bpdu-header = rw (a .bpdu, bytes-are, bpdu-default, zero-word)
+      bpdu-header : bpduOffer .header ≡ storedHeader (operationFor links (f .vid)) (frameOf f)
+      unfolding storedHeader frameOf
+      bpdu-header = rw (a .bpdu, bytes-are, bpdu-default)
 
-    bpdu-meets : anyDamaged t ≡ false → met links addresses port frame ≡ metRoom n links (length frame) 3 t
-    unfolding metBpdu
-    bpdu-meets e =
-        a .way .meets-is
-        ∙ rw (ap anyDamaged (sym tests-are) ∙ e)
-        (ap (λ (c : ℕ). metRoom c links (length frame) 3 (bpduNumbers links)) (sym (a .way .lent .count)) ∙ ap (metRoom n links (length frame) 3) (sym tests-are))
+      masks-at : m ≡ bpduMasks links
+      unfolding bpduMasks
+      masks-at = masks-are ∙ ap (λ (w : ℕ). masksOf managementMask everyPort w 3) switches-are
 
-    never-ordinary : {A : Type 0} → f .bpdu ≡ false → A
-    never-ordinary o = absurd (true≢false (sym (a .bpdu) ∙ o))
+      bpdu-meets : met links addresses port frame ≡ metRoom n links (length frame) (m .left)
+      unfolding metBpdu
+      bpdu-meets =
+          a .way .meets-is
+          ∙ rw (ap isSwitchesWord (sym switches-are) ∙ good)
+          (ap (λ (c : ℕ). metRoom c links (length frame) (bpduMasks links .left)) (sym (a .way .lent .count))
+          ∙ ap (λ (x : Masks). metRoom n links (length frame) (x .left)) (sym masks-at))
 
-    -- it skips 4 to 11, so that its test counts
-    bpdu-counts : countsTests f ≡ true
-    bpdu-counts = counts-then f (record { past = record { read = a .way .read; entered = never-ordinary }; chosen = never-ordinary })
+      never-ordinary : {A : Type 0} → f .bpdu ≡ false → A
+      never-ordinary o = absurd (true≢false (sym (a .bpdu) ∙ o))
 
-    bpdu-numbers : anyDamaged t ≡ false → t ≡ numbersOf (f .test)
-    bpdu-numbers e =
-        tests-are ∙ bpdu-numbers-are links (ap anyDamaged (sym tests-are) ∙ e) ∙ ap numbersOf (sym (bpdu-test links addresses frame port (a .bpdu)))
+      -- it skips 4 to 11, so that its test counts
+      bpdu-counts : countsTests f ≡ true
+      bpdu-counts = counts-then f (record { past = record { read = a .way .read; entered = never-ordinary }; chosen = never-ordinary })
 
-    pub bpdu-offered : anyDamaged t ≡ false → Judged links addresses frame n port (planOffered n links (length frame) noLesson bpduOffer)
-    bpdu-offered e =
-        offer-judged links addresses frame n port (a .way .lent) bpdu-counts (reason-bpdu f (a .way .read) (a .bpdu)) noLesson bpduOffer
-        (nothing-taught links addresses frame n port (a .way .lent) (bpdu-learns-nothing f (a .bpdu))) (bpdu-numbers e)
-        (sym (bpdu-queue links addresses frame port (a .bpdu))) (omega arith) bpdu-header (a .way .longest) (bpdu-meets e)
+      bpdu-tests : MasksAre (f .test) m
+      unfolding bpduMasks
+      bpdu-tests = rw (bpdu-test links addresses frame port (a .bpdu), masks-at) (bpdu-masks-in links)
+
+      pub bpdu-offered : Judged links addresses frame n port (planOffered n links (length frame) noLesson bpduOffer)
+      bpdu-offered =
+          offer-judged links addresses frame n port (a .way .lent) bpdu-counts (reason-bpdu f (a .way .read) (a .bpdu)) noLesson bpduOffer
+          (nothing-taught links addresses frame n port (a .way .lent) (bpdu-learns-nothing f (a .bpdu))) bpdu-tests
+          (sym (bpdu-queue links addresses frame port (a .bpdu))) (omega arith) bpdu-header (a .way .longest) bpdu-meets

@@ -5,8 +5,7 @@ use mathlib.Core.Bool.{Bool, true, false, _||_, not, true≢false}
 use mathlib.Core.List.{List}
 use mathlib.Core.Option.{none, some}
 use native.Mathlib.Omega.{arith}
-use borrow.Author.Tests.{not-false}
-use lib.Dec.{eqb, leb}
+use lib.Dec.{eqb}
 use lib.ListN.{length, getD}
 use Rattle.rules.specs.Choice.{if_then_else_}
 use Rattle.rules.specs.Lines.{first}
@@ -14,25 +13,28 @@ use Rattle.rules.specs.Tags.{Bytes, destination, source, tagsOf}
 use Rattle.rules.specs.Reasons.{Reason}
 use Rattle.rules.specs.Settings.{Vlan}
 use Rattle.rules.specs.Addresses.{key}
-use Rattle.rules.specs.Arguments.{bit, portInRange, vlanInRange, vlanEntry}
+use Rattle.rules.specs.Arguments.{bit, vlanEntry}
 use Rattle.rules.specs.Facts.{Facts}
 use Rattle.rules.specs.ReasonTable.{reading, entering, rowsOf}
 use Rattle.rules.specs.Outcomes.{learns, tableAfter}
 use Rattle.rules.proofs.Choice.{on, onOption, or-left, or-right}
 use Rattle.rules.proofs.Lines.{first-append-some}
 use Rattle.rules.proofs.Parts.{learns-exactly}
-use Rattle.layout.specs.Places.{bpduWord}
-use Rattle.settings.specs.Records.{portAt, vlanAt}
-use Rattle.settings.specs.RangeLaws.{vlan-range}
+use Rattle.layout.specs.Places.{portWord, vlanOperationWord}
+use Rattle.packed.specs.Operations.{isOperationWord}
+use Rattle.packed.specs.Ports.{isVidWord, vlanIn}
+use Rattle.packed.specs.States.{isStatesWord}
+use Rattle.packed.specs.Maps.{isMapWord}
+use Rattle.settings.specs.Records.{statesAt, vlanAt}
 use Rattle.settings.specs.Table.{foundVlan}
-use Rattle.settings.specs.SettingsOf.{settingsOf}
-use Rattle.settings.specs.FindLaws.{found-there, found-nowhere, onFound}
+use Rattle.settings.specs.SettingsOf.{mapAt, settingsOf}
+use Rattle.settings.proofs.FindLaws.{found-there, found-nowhere, onFound}
 use Rattle.settings.specs.declared.table.Found.the-variants.{At, Nowhere, Damaged}
 use Rattle.addresses.specs.Numbers.{tableOf}
 use Rattle.addresses.specs.Search.{lookUp, damaged}
 use Rattle.frame_rules.specs.Arrivals.{portRules}
 use Rattle.frame_rules.specs.Candidates.{destinationLookUp}
-use Rattle.frame_in.specs.Met.{unlessDropped, metMember, metEntry, metTable, metFrame, metBpdu, metPort, met}
+use Rattle.frame_in.specs.Met.{unlessDropped, metMember, metEntry, metTable, metEntering, metFrame, metBpdu, metPort, met}
 use Rattle.frame_in.specs.Call.{factsIn, lessonIn, learnedIn}
 use Rattle.frame_in.proofs.Facts.{facts-port, facts-there, facts-vlan, facts-gid}
 use Rattle.frame_in.proofs.Barring.{laterRules, rules-split, rules-later}
@@ -96,12 +98,16 @@ module _ (links addresses frame : List ℕ) (port : ℕ) where
       way-met : rest ≡ false
       unfolding metPort
       way-met =
-          or-right (not (leb (getD links bpduWord 0) 1)) rest
-          (or-right (not (portInRange (portAt links port))) (not (leb (getD links bpduWord 0) 1) || rest) port-met)
+          or-right (not (isMapWord (mapAt links))) rest
+          (or-right (not (isVidWord (getD links (portWord port) 0))) (not (isMapWord (mapAt links)) || rest) port-met)
+
+      entering-met : metEntering links addresses port frame ≡ false
+      unfolding metFrame
+      entering-met = or-right (not (isStatesWord (statesAt links))) (metEntering links addresses port frame) (rw ordinary at way-met)
 
       table-met : metTable links addresses port frame (foundVlan links (f .vid)) ≡ false
-      unfolding metFrame unlessDropped
-      table-met = rw not-barred at (rw ordinary at way-met)
+      unfolding metEntering unlessDropped
+      table-met = rw not-barred at entering-met
 
       not-damaged : foundVlan links (f .vid) ≡ Damaged → ⊥
       unfolding metTable
@@ -112,13 +118,9 @@ module _ (links addresses frame : List ℕ) (port : ℕ) where
       not-nowhere e = true≢false (sym (known .there) ∙ facts-there links addresses frame port ∙ found-nowhere links (f .vid) e)
 
       module _ (long : length addresses ≡ 4112) (there : port ≤ 4) (each : Bytes frame) (e : ℕ) (found : foundVlan links (f .vid) ≡ At e) where
-        entry-met : metEntry links addresses port frame (vlanAt links e) ≡ false
+        entry-met : metEntry links addresses port frame e ≡ false
         unfolding metTable
         entry-met = rw found at table-met
-
-        good : vlanInRange (vlanAt links e) ≡ true
-        unfolding metEntry
-        good = not-false _ (or-left (not (vlanInRange (vlanAt links e))) _ entry-met)
 
         entry-is : f .vlan ≡ vlanEntry (vlanAt links e)
         unfolding settingsOf
@@ -135,7 +137,7 @@ module _ (links addresses frame : List ℕ) (port : ℕ) where
 
         member-met : metMember links addresses port frame (vlanAt links e) ≡ false
         unfolding metEntry
-        member-met = rw member-bit at (or-right (not (vlanInRange (vlanAt links e))) _ entry-met)
+        member-met = rw member-bit at (or-right (not (isOperationWord (getD links (vlanOperationWord e) 0))) _ entry-met)
 
         whole : damaged (destinationLookUp addresses (vlanAt links e .gid) (destination frame)) ≡ false
         unfolding metMember
@@ -148,8 +150,8 @@ module _ (links addresses frame : List ℕ) (port : ℕ) where
             (or-right (damaged (destinationLookUp addresses (vlanAt links e .gid) (destination frame))) _ member-met)
 
         small : key (vlanAt links e .gid) (source frame) < 2 ^ 52
-        unfolding key source
-        small = omega (arith, vlan-range (vlanAt links e) good .gid, address-below frame 6 each)
+        unfolding key source vlanIn
+        small = omega (arith, address-below frame 6 each)
 
         learned-at : learnedIn links addresses port frame ≡ lessonIn addresses (vlanAt links e .gid) port frame .1
         unfolding learnedIn

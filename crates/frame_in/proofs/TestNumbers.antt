@@ -1,2 +1,2 @@
 -- A port is one of five, as `frame_rules` proves it, for the crates above. Assumes nothing.
-pub use Rattle.frame_rules.proofs.TestNumbers.{port-is}
+pub use Rattle.frame_rules.proofs.LinkWords.{port-is}

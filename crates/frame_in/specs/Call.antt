@@ -1,4 +1,5 @@
--- What a frame-in does: the rules' outcome of the frame's facts, the machine's events, and what they make of each memory.
+-- What a frame-in does: the rules' outcome of the frame's facts, the machine's events, and what they make of each
+-- memory.
 -- Assumes nothing: these are definitions.
 use Prim.Native.Nat.{ℕ}
 use mathlib.Core.Bool.{Bool, _&&_}
@@ -12,7 +13,6 @@ use Rattle.rules.specs.Outcomes.{Outcome, drops, queues, outcomeOf, learns, isN
 use Rattle.rules.specs.Refusals.{Lines, frameInLines}
 use Rattle.machine.specs.Waiting.{size}
 use Rattle.machine.specs.FrameIn.{mask, frameInEvents}
-use Rattle.layout.specs.Places.{ringOfQueue}
 use Rattle.lent.specs.declared.Answer.{Answer}
 use Rattle.lent.specs.Lengths.{cellCount, linksFit, cellsFit, addressesFit}
 use Rattle.lent.specs.Answers.{doneWith, lengthLine, damageLine, orRefused}
@@ -23,31 +23,29 @@ use Rattle.cells.specs.Chains.{follow}
 use Rattle.cells.specs.Bytes.{storeCells}
 use Rattle.cells.specs.Stored.{storedBytes}
 use Rattle.cells.specs.Free.{firstFree, taken}
-use Rattle.queues.specs.Rings.{pushed}
-use Rattle.frame_rules.specs.Stored.{storedHeader}
+use Rattle.frame_rules.specs.Stored.{operationFor, storedHeader}
 use Rattle.frame_rules.specs.Candidates.{destinationLookUp}
 use Rattle.frame_in.specs.Counting.{counted}
 use Rattle.frame_in.specs.Met.{met}
+unfoldable pub use Rattle.queues.specs.Lists.{pushedAt}
 unfoldable pub use Rattle.frame_in.specs.Facts.{factsIn}
 
 abbrev pub Memories : Type 0
 Memories = List ℕ × List ℕ × List ℕ
 
--- ---- cell and link memory: the frame's cells and rings, then the counters
+-- ---- cell and link memory: the frame's cells and queues, then the counters
 
-unfoldable pub storedFor : Outcome → List ℕ → List ℕ → List ℕ
-storedFor (drops r) links memory = memory
-storedFor (queues f ports) links memory =
-    storeCells memory (follow links (size f) (firstFree links)) (storedBytes (storedHeader f) ++ f .packet .bytes)
+-- with the word of the VLAN's operation
+unfoldable pub storedFor : ℕ → ℕ → Outcome → List ℕ → List ℕ → List ℕ
+storedFor n operation (drops r) links memory = memory
+storedFor n operation (queues f ports) links memory =
+    storeCells memory (follow n links (size f) (firstFree links))
+    (storedBytes (storedHeader operation f) ++ f .packet .bytes)
 
 -- the first cell joins the queue of each port, in ascending order
-unfoldable pub pushedAt : ℕ → ℕ → ℕ → List ℕ → List ℕ → List ℕ
-pushedAt n queue cell [] links = links
-pushedAt n queue cell (r ∷ rs) links = pushedAt n queue cell rs (pushed n (ringOfQueue r queue) cell links)
-
 unfoldable pub joinedFor : ℕ → Outcome → List ℕ → List ℕ
 joinedFor n (drops r) links = links
-joinedFor n (queues f ports) links = pushedAt n (f .queue) (firstFree links) ports (taken (size f) (mask ports) links)
+joinedFor n (queues f ports) links = pushedAt n (f .queue) (firstFree links) ports (taken n (size f) (mask ports) links)
 
 -- ---- address memory
 
@@ -74,7 +72,14 @@ unfoldable pub entered : ℕ → List ℕ → List ℕ → List ℕ → List ℕ
 entered port frame memory links addresses =
     let f = factsIn links addresses port frame in
     let joined = joinedFor (cellCount links) (outcomeOf f) links in
-    (answerFor (outcomeOf f), (storedFor (outcomeOf f) links memory, counted (frameInEvents f (isNotLearned f (tableOf addresses))) joined, learnedIn links addresses port frame))
+    let stored = storedFor (cellCount links) (operationFor links (f .vid)) (outcomeOf f) links memory in (
+      answerFor (outcomeOf f),
+      (
+        stored,
+        counted (frameInEvents f (isNotLearned f (tableOf addresses))) joined,
+        learnedIn links addresses port frame,
+      ),
+    )
 
 -- the call's lines: 1, the rules' own, 10
 abbrev pub frameInRefusals : List ℕ → List ℕ → List ℕ → ℕ → List ℕ → Lines
@@ -84,4 +89,5 @@ frameInRefusals memory links addresses port frame =
 
 unfoldable pub frameInCall : List ℕ → List ℕ → List ℕ → ℕ → List ℕ → Answer × Memories
 frameInCall memory links addresses port frame =
-    orRefused (first (frameInRefusals memory links addresses port frame)) (memory, links, addresses) (entered port frame memory links addresses)
+    orRefused (first (frameInRefusals memory links addresses port frame)) (memory, links, addresses)
+    (entered port frame memory links addresses)

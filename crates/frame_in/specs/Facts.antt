@@ -7,4 +7,5 @@ use Rattle.addresses.specs.Numbers.{tableOf}
 use Rattle.cells.specs.Free.{freeCount}
 
 unfoldable pub factsIn : List ℕ → List ℕ → ℕ → List ℕ → Facts
-factsIn links addresses port frame = factsOf (settingsOf links) (tableOf addresses) (freeCount links) port (record { bytes = frame })
+factsIn links addresses port frame =
+    factsOf (settingsOf links) (tableOf addresses) (freeCount links) port (record { bytes = frame })

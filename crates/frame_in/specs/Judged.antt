@@ -1,5 +1,5 @@
--- What a plan must be: damaged exactly if the call meets damage; else carried out it does what the rules say. And how far the
--- rules have been followed when a stage begins. Assumes nothing: these are definitions.
+-- What a plan must be: damaged exactly if the call meets damage; else carried out it does what the rules say. And how
+-- far the rules have been followed when a stage begins. Assumes nothing: these are definitions.
 use Prim.Native.Nat.{ℕ, _≤_}
 use mathlib.Core.Path.{_≡_}
 use mathlib.Core.Bool.{Bool, false}
@@ -25,7 +25,8 @@ pub record Lent (links addresses : List ℕ) (n port : ℕ) : Type 0 where
 
 pub record Right (links addresses frame : List ℕ) (n port : ℕ) (plan : Plan) : Type 0 where
   pub ready : (memory : List ℕ) → length memory ≡ cellBytes n → Ready n memory links frame plan
-  pub carried : (memory : List ℕ) → carriedOut n plan port frame memory links addresses ≡ entered port frame memory links addresses
+  pub carried : (memory : List ℕ)
+      → carriedOut n plan port frame memory links addresses ≡ entered port frame memory links addresses
 
 pub record Judged (links addresses frame : List ℕ) (n port : ℕ) (plan : Plan) : Type 0 where
   pub damage : plan .damaged ≡ met links addresses port frame

@@ -1,30 +1,36 @@
--- The layout paper, "What a call reads, for refusal 10": is a field out of its range met on a frame-in's way?
+-- The layout paper, "What a call reads, for refusal 10": is a word out of its range met on a frame-in's way?
 -- Assumes nothing: these are definitions.
 use Prim.Native.Nat.{ℕ}
 use mathlib.Core.Bool.{Bool, true, false, _||_, not}
 use mathlib.Core.List.{List}
 use mathlib.Core.Option.{Option, none, some}
-use lib.Dec.{leb}
 use lib.ListN.{length, getD}
 use Rattle.rules.specs.Choice.{if_then_else_}
 use Rattle.rules.specs.Lines.{first}
+use Rattle.rules.specs.Numbers.{bpduQueue}
 use Rattle.rules.specs.Tags.{destination, source, tagsOf}
 use Rattle.rules.specs.Reasons.{Reason}
 use Rattle.rules.specs.Settings.{isLearning}
 use Rattle.rules.specs.Addresses.{key}
-use Rattle.rules.specs.Arguments.{VlanNumbers, bit, portInRange, vlanInRange}
+use Rattle.rules.specs.Arguments.{VlanNumbers, bit}
 use Rattle.rules.specs.ReasonTable.{reading, rowsOf}
-use Rattle.layout.specs.Places.{bpduWord}
+use Rattle.layout.specs.Places.{portWord, vlanOperationWord}
 use Rattle.lent.specs.Lengths.{cellCount}
-use Rattle.settings.specs.Records.{portAt, vlanAt}
+use Rattle.packed.specs.Operations.{isOperationWord}
+use Rattle.packed.specs.Ports.{isVidWord}
+use Rattle.packed.specs.States.{isStatesWord}
+use Rattle.packed.specs.Switches.{isSwitchesWord}
+use Rattle.packed.specs.Maps.{isMapWord}
+use Rattle.settings.specs.Records.{statesAt, vlanAt}
 use Rattle.settings.specs.Table.{foundVlan}
-use Rattle.settings.specs.SettingsOf.{settingsOf}
+use Rattle.settings.specs.SettingsOf.{mapAt, switchesAt, settingsOf}
 use Rattle.settings.specs.declared.table.Found.{Found}
 use Rattle.settings.specs.declared.table.Found.the-variants.{At, Nowhere, Damaged}
 use Rattle.addresses.specs.Search.{lookUp, damaged}
-use Rattle.frame_rules.specs.declared.plan.Tests.{Tests}
+use Rattle.frame_rules.specs.declared.plan.Masks.{Masks}
 use Rattle.frame_rules.specs.Arrivals.{portRules}
-use Rattle.frame_rules.specs.Candidates.{destinationLookUp, chosenPort, numbersAt, bpduNumbers, anyDamaged}
+use Rattle.frame_rules.specs.Candidates.{everyPort, managementMask, destinationLookUp, chosenMask}
+use Rattle.frame_rules.specs.Candidates.{candidatesIn, masksOf}
 use Rattle.frame_rules.specs.Room.{metRoom}
 use Rattle.frame_in.specs.Facts.{factsIn}
 
@@ -33,48 +39,64 @@ unfoldable pub unlessDropped : Option Reason → Bool → Bool
 unlessDropped none met = met
 unlessDropped (some r) met = false
 
--- the tests of the candidate ports; past 10, with a port left, the room
-unfoldable pub metTests : List ℕ → List ℕ → ℕ → List ℕ → ℕ → Tests → Bool
-metTests links addresses port frame queue tests =
-    anyDamaged tests
-    || (if isLearning (factsIn links addresses port frame .state) then false else metRoom (cellCount links) links (length frame) queue tests)
+-- the masks of an ordinary frame, and of a BPDU: "the one candidate 4, queue 3"; only its queue switch applies
+unfoldable pub masksIn : List ℕ → List ℕ → ℕ → List ℕ → VlanNumbers → Masks
+masksIn links addresses port frame v =
+    masksOf (candidatesIn (v .members) (chosenMask (destinationLookUp addresses (v .gid) (destination frame))) port)
+    (statesAt links) (switchesAt links) (factsIn links addresses port frame .queue)
 
--- past reason 9: both searches, the queue of the PCP, then the candidates
+unfoldable pub bpduMasks : List ℕ → Masks
+bpduMasks links = masksOf managementMask everyPort (switchesAt links) bpduQueue
+
+-- past reason 10, with a port left, the room
+unfoldable pub metTests : List ℕ → List ℕ → ℕ → List ℕ → Masks → Bool
+metTests links addresses port frame masks =
+    if isLearning (factsIn links addresses port frame .state)
+    then false
+    else metRoom (cellCount links) links (length frame) (masks .left)
+
+-- past reason 9: both searches and, also if 10 or 11 follows, the switches' word
 unfoldable pub metMember : List ℕ → List ℕ → ℕ → List ℕ → VlanNumbers → Bool
 metMember links addresses port frame v =
     damaged (destinationLookUp addresses (v .gid) (destination frame))
     || (damaged (lookUp addresses (key (v .gid) (source frame)))
-    || (not (leb (factsIn links addresses port frame .queue) 3)
-    || metTests links addresses port frame (factsIn links addresses port frame .queue)
-    (numbersAt links (v .members) (chosenPort (destinationLookUp addresses (v .gid) (destination frame))) port (factsIn links addresses port frame .queue))))
+    || (not (isSwitchesWord (switchesAt links))
+    || metTests links addresses port frame (masksIn links addresses port frame v)))
 
--- the entry of the VID, its whole record
-unfoldable pub metEntry : List ℕ → List ℕ → ℕ → List ℕ → VlanNumbers → Bool
-metEntry links addresses port frame v =
-    not (vlanInRange v) || (if bit (v .members) port then metMember links addresses port frame v else false)
+-- the entry of the VID: its operation's word too
+unfoldable pub metEntry : List ℕ → List ℕ → ℕ → List ℕ → ℕ → Bool
+metEntry links addresses port frame e =
+    not (isOperationWord (getD links (vlanOperationWord e) 0))
+    || (if bit (vlanAt links e .members) port then metMember links addresses port frame (vlanAt links e) else false)
 
--- past reason 6: the VLANs in use and the VIDs of the entries from 0 on to the one of the VID
+-- past reason 6, also under 7: the VLANs in use and the words of the entries from 0 on to the one of the VID
 unfoldable pub metTable : List ℕ → List ℕ → ℕ → List ℕ → Found → Bool
 metTable links addresses port frame Damaged = true
 metTable links addresses port frame Nowhere = false
-metTable links addresses port frame (At e) = metEntry links addresses port frame (vlanAt links e)
+metTable links addresses port frame (At e) = metEntry links addresses port frame e
 
-unfoldable pub metFrame : List ℕ → List ℕ → ℕ → List ℕ → Bool
-metFrame links addresses port frame =
+unfoldable pub metEntering : List ℕ → List ℕ → ℕ → List ℕ → Bool
+metEntering links addresses port frame =
     unlessDropped (first (portRules (settingsOf links .port port) (length (tagsOf frame))))
     (metTable links addresses port frame (foundVlan links (factsIn links addresses port frame .vid)))
 
--- a BPDU: the switch of queue 3 of port 4, then the room
+-- no BPDU: the states' word
+unfoldable pub metFrame : List ℕ → List ℕ → ℕ → List ℕ → Bool
+metFrame links addresses port frame = not (isStatesWord (statesAt links)) || metEntering links addresses port frame
+
+-- a BPDU: the switches' word, then the room
 unfoldable pub metBpdu : List ℕ → List ℕ → Bool
 metBpdu links frame =
-    anyDamaged (bpduNumbers links) || metRoom (cellCount links) links (length frame) 3 (bpduNumbers links)
+    not (isSwitchesWord (switchesAt links))
+    || metRoom (cellCount links) links (length frame) (bpduMasks links .left)
 
--- past reason 3: the arrival port's record and BPDU handling
+-- past reason 3: the arrival port's word and the map's
 unfoldable pub metPort : List ℕ → List ℕ → ℕ → List ℕ → Bool
 metPort links addresses port frame =
-    not (portInRange (portAt links port))
-    || (not (leb (getD links bpduWord 0) 1)
+    not (isVidWord (getD links (portWord port) 0))
+    || (not (isMapWord (mapAt links))
     || (if factsIn links addresses port frame .bpdu then metBpdu links frame else metFrame links addresses port frame))
 
 unfoldable pub met : List ℕ → List ℕ → ℕ → List ℕ → Bool
-met links addresses port frame = unlessDropped (first (rowsOf reading (factsIn links addresses port frame))) (metPort links addresses port frame)
+met links addresses port frame =
+    unlessDropped (first (rowsOf reading (factsIn links addresses port frame))) (metPort links addresses port frame)

@@ -1,44 +1,57 @@
 // What happens to a frame, in the order of the table of reasons: nothing is written.
 ghost use Rattle.frame_in.specs.Judged.{Lent, Judged};
-ghost use Rattle.frame_in.specs.Stages.{PastEarly, Ordinary, AsBpdu, InEntry, Member, Tested};
+ghost use Rattle.frame_in.specs.Stages.{PastEarly, NoBpdu, Ordinary, AsBpdu, InEntry, Member, Tested};
 use addresses::key_of;
 use addresses::look_up;
 use cells::stored::StoredHeader;
 use frame_rules::arrival::Arrival;
 use frame_rules::arrival::absent;
 use frame_rules::arrival::arrival_of;
-use frame_rules::arrival::bit;
-use frame_rules::arrival::default_header;
 use frame_rules::arrival::early;
 use frame_rules::arrival::is_bpdu;
-use frame_rules::arrival::operation_byte;
-use frame_rules::arrival::operation_header;
-use frame_rules::candidates::any_candidate;
-use frame_rules::candidates::any_damaged;
-use frame_rules::candidates::bpdu_tests;
+use frame_rules::arrival::stored_default;
+use frame_rules::candidates::EVERY_PORT;
+use frame_rules::candidates::MANAGEMENT;
+use frame_rules::candidates::candidates;
 use frame_rules::candidates::chosen;
 use frame_rules::candidates::destination_look_up;
 use frame_rules::candidates::is_damaged;
-use frame_rules::candidates::tests_of;
+use frame_rules::candidates::masks_of;
 use frame_rules::plan::Lesson;
 use frame_rules::plan::Offer;
 use frame_rules::plan::Plan;
 use frame_rules::plan::damaged_plan;
 use frame_rules::plan::drop_plan;
 use frame_rules::plan::lesson_plan;
-use frame_rules::room::bpdu_plan;
+use frame_rules::plan::no_lesson;
+use frame_rules::reasons::NO_CANDIDATE;
+use frame_rules::reasons::NO_MEMBER;
+use frame_rules::reasons::PORT_LEARNING;
 use frame_rules::room::offered_plan;
-use settings::port::port_in_range;
-use settings::port::read_port;
+use layout::MAP;
+use layout::PORT;
+use layout::PORT_STRIDE;
+use layout::STATES;
+use layout::SWITCHES;
+use layout::VLAN;
+use layout::VLAN_OPERATION;
+use layout::VLAN_STRIDE;
+use packed::bits::bit;
+use packed::map::is_map_word;
+use packed::operation::EXEMPT;
+use packed::operation::is_operation_word;
+use packed::operation::unpack_operation;
+use packed::port::is_vid_word;
+use packed::states::is_states_word;
+use packed::switches::is_switches_word;
+use packed::vlan::VlanSettings;
+use packed::vlan::unpack_vlan;
 use settings::table::Found;
 use settings::table::find_vlan;
-use settings::vlan::VlanSettings;
-use settings::vlan::read_vlan;
-use settings::vlan::vlan_in_range;
 use tags::reading::address_at;
-use words::word::Word;
-use words::word::bpdu_handling;
-use words::word::queue_of;
+
+// "The one candidate 4, queue 3, no tag operation at all": that queue.
+const BPDU_QUEUE: u32 = 3;
 
 // 10 and 11; then 12 and 13.
 fn tested(
@@ -54,17 +67,14 @@ fn tested(
     requires { ⌜ Tested (now links) (now addresses) (now frame) n port learning lesson offer ⌝ }
     ensures { λ r. ⌜ Judged (now (links .entry)) (now (addresses .entry)) (now (frame .entry)) n port r ⌝ }
 {
-    let tests = offer.tests;
-    if any_damaged(tests) {
-        return damaged_plan();
-    }
+    let masks = offer.masks;
     if learning {
-        return lesson_plan(10, lesson);
+        return lesson_plan(PORT_LEARNING, lesson);
     }
-    if any_candidate(tests) {
-        return offered_plan(links, n, frame.len(), lesson, offer);
+    if masks.candidates == 0 {
+        return lesson_plan(NO_CANDIDATE, lesson);
     }
-    lesson_plan(11, lesson)
+    offered_plan(links, n, frame.len(), lesson, offer)
 }
 
 // Past 9: "looked up before the source is learned".
@@ -76,8 +86,9 @@ fn member(
     frame: &[u8],
     arrival: Arrival,
     vlan: VlanSettings,
+    operation: u32,
 ) -> Plan
-    requires { ⌜ Member (now links) (now addresses) (now frame) n port arrival vlan ⌝ }
+    requires { ⌜ Member (now links) (now addresses) (now frame) n port arrival vlan operation ⌝ }
     ensures { λ r. ⌜ Judged (now (links .entry)) (now (addresses .entry)) (now (frame .entry)) n port r ⌝ }
 {
     let destination = destination_look_up(addresses, vlan.gid, address_at(frame, 0));
@@ -89,39 +100,42 @@ fn member(
     if is_damaged(source) {
         return damaged_plan();
     }
-    let Word::Within(queue) = queue_of(links, arrival.pcp as usize) else {
-        return damaged_plan();
-    };
-    let tests = tests_of(links, vlan.members, chosen(destination), port, queue);
-    let operation = vlan.operation;
-    let header = StoredHeader {
-        length: frame.len() as u16,
-        default: arrival.default,
-        operation: operation_byte(operation),
-        exempt: 0,
-        header: operation_header(operation),
-    };
-    let lesson = Lesson {
-        learns: true,
-        destination,
-        source,
-        key: source_key,
-    };
-    let offer = Offer {
-        tests,
-        queue,
-        header,
-    };
-    tested(
-        links,
-        addresses,
-        n,
-        port,
-        frame,
-        arrival.learning,
-        lesson,
-        offer,
-    )
+    let switches = links[SWITCHES];
+    if is_switches_word(switches) {
+        let masks = masks_of(
+            candidates(vlan.members, chosen(destination), port),
+            links[STATES],
+            switches,
+            arrival.queue,
+        );
+        let header = StoredHeader {
+            length: frame.len() as u16,
+            default: arrival.default,
+            operation,
+        };
+        let lesson = Lesson {
+            learns: true,
+            destination,
+            source,
+            key: source_key,
+        };
+        let offer = Offer {
+            masks,
+            queue: arrival.queue,
+            header,
+        };
+        return tested(
+            links,
+            addresses,
+            n,
+            port,
+            frame,
+            arrival.learning,
+            lesson,
+            offer,
+        );
+    }
+    damaged_plan()
 }
 
 // 9.
@@ -132,16 +146,21 @@ fn in_entry(
     port: u32,
     frame: &[u8],
     arrival: Arrival,
-    vlan: VlanSettings,
+    entry: usize,
 ) -> Plan
-    requires { ⌜ InEntry (now links) (now addresses) (now frame) n port arrival vlan ⌝ }
+    requires { ⌜ InEntry (now links) (now addresses) (now frame) n port arrival entry ⌝ }
     ensures { λ r. ⌜ Judged (now (links .entry)) (now (addresses .entry)) (now (frame .entry)) n port r ⌝ }
 {
-    if vlan_in_range(vlan) {
+    let operation = links[VLAN_OPERATION + VLAN_STRIDE * entry];
+    if is_operation_word(operation) {
+        let vlan = unpack_vlan(
+            links[VLAN + VLAN_STRIDE * entry],
+            unpack_operation(operation),
+        );
         if bit(vlan.members, port) {
-            return member(links, addresses, n, port, frame, arrival, vlan);
+            return member(links, addresses, n, port, frame, arrival, vlan, operation);
         }
-        return drop_plan(9);
+        return drop_plan(NO_MEMBER);
     }
     damaged_plan()
 }
@@ -164,10 +183,7 @@ fn ordinary(
     match find_vlan(links, arrival.vid) {
         Found::Damaged => damaged_plan(),
         Found::Nowhere => drop_plan(absent(arrival.vid)),
-        Found::At(entry) => {
-            let vlan = read_vlan(links, entry);
-            in_entry(links, addresses, n, port, frame, arrival, vlan)
-        }
+        Found::At(entry) => in_entry(links, addresses, n, port, frame, arrival, entry),
     }
 }
 
@@ -176,23 +192,43 @@ fn bpdu(links: &[u32], addresses: &[u64], n: usize, port: u32, frame: &[u8], def
     requires { ⌜ AsBpdu (now links) (now addresses) (now frame) n port default ⌝ }
     ensures { λ r. ⌜ Judged (now (links .entry)) (now (addresses .entry)) (now (frame .entry)) n port r ⌝ }
 {
-    let tests = bpdu_tests(links);
-    if any_damaged(tests) {
-        return damaged_plan();
+    let switches = links[SWITCHES];
+    if is_switches_word(switches) {
+        let masks = masks_of(MANAGEMENT, EVERY_PORT, switches, BPDU_QUEUE);
+        let header = StoredHeader {
+            length: frame.len() as u16,
+            default,
+            operation: EXEMPT,
+        };
+        let offer = Offer {
+            masks,
+            queue: BPDU_QUEUE,
+            header,
+        };
+        return offered_plan(links, n, frame.len(), no_lesson(), offer);
     }
-    let header = StoredHeader {
-        length: frame.len() as u16,
-        default,
-        operation: 160,
-        exempt: 1,
-        header: 0,
-    };
-    let offer = Offer {
-        tests,
-        queue: 3,
-        header,
-    };
-    bpdu_plan(links, n, frame.len(), offer)
+    damaged_plan()
+}
+
+// No BPDU.
+fn with_states(
+    links: &[u32],
+    addresses: &[u64],
+    n: usize,
+    port: u32,
+    frame: &[u8],
+    word: u32,
+    map: u32,
+) -> Plan
+    requires { ⌜ NoBpdu (now links) (now addresses) (now frame) n port word map ⌝ }
+    ensures { λ r. ⌜ Judged (now (links .entry)) (now (addresses .entry)) (now (frame .entry)) n port r ⌝ }
+{
+    let states = links[STATES];
+    if is_states_word(states) {
+        let arrival = arrival_of(word, states, map, port, frame);
+        return ordinary(links, addresses, n, port, frame, arrival);
+    }
+    damaged_plan()
 }
 
 // Past 3: a BPDU, or an ordinary frame.
@@ -200,17 +236,16 @@ fn past_early(links: &[u32], addresses: &[u64], n: usize, port: u32, frame: &[u8
     requires { ⌜ PastEarly (now links) (now addresses) (now frame) n port ⌝ }
     ensures { λ r. ⌜ Judged (now (links .entry)) (now (addresses .entry)) (now (frame .entry)) n port r ⌝ }
 {
-    let settings = read_port(links, port as usize);
-    if port_in_range(settings) {
-        let Word::Within(handling) = bpdu_handling(links) else {
-            return damaged_plan();
-        };
-        let default = default_header(settings);
-        if is_bpdu(handling, port, frame) {
-            return bpdu(links, addresses, n, port, frame, default);
+    let word = links[PORT + PORT_STRIDE * (port as usize)];
+    if is_vid_word(word) {
+        let map = links[MAP];
+        if is_map_word(map) {
+            if is_bpdu(map, port, frame) {
+                return bpdu(links, addresses, n, port, frame, stored_default(word));
+            }
+            return with_states(links, addresses, n, port, frame, word, map);
         }
-        let arrival = arrival_of(settings, default, frame);
-        return ordinary(links, addresses, n, port, frame, arrival);
+        return damaged_plan();
     }
     damaged_plan()
 }

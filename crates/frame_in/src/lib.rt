@@ -10,7 +10,9 @@ use lent::Answer;
 
 // Have the memories the lengths that the fresh call got?
 fn fits(cells: &[u8], links: &[u32], addresses: &[u64]) -> bool
-    ensures { λ r. ⌜ r ≡ (linksFit (now (links .entry)) && (cellsFit (now (cells .entry)) (now (links .entry)) && addressesFit (now (addresses .entry)))) ⌝ }
+    ensures { λ r. ⌜ r
+        ≡ (linksFit (now (links .entry))
+        && (cellsFit (now (cells .entry)) (now (links .entry)) && addressesFit (now (addresses .entry)))) ⌝ }
 {
     if lent::links_fit(links) {
         return lent::cells_fit(cells, links) & lent::addresses_fit(addresses);
@@ -18,7 +20,8 @@ fn fits(cells: &[u8], links: &[u32], addresses: &[u64]) -> bool
     false
 }
 
-// A frame arrives at a port. x: 0 if it is queued, else the reason from 1 to 13; y: the mask of the ports it is queued at.
+// A frame arrives at a port. x: 0 if it is queued, else the reason from 1 to 13; y: the mask of the ports it is queued
+// at.
 pub fn frame_in(
     cells: &mut [u8],
     links: &mut [u32],
@@ -26,7 +29,8 @@ pub fn frame_in(
     port: u32,
     frame: &[u8],
 ) -> Answer
-    ensures { λ r. ⌜ (r, (now (cells .exit), now (links .exit), now (addresses .exit))) ≡ frameInCall (now (cells .entry)) (now (links .entry)) (now (addresses .entry)) port (now (frame .entry)) ⌝ }
+    ensures { λ r. ⌜ (r, (now (cells .exit), now (links .exit), now (addresses .exit)))
+        ≡ frameInCall (now (cells .entry)) (now (links .entry)) (now (addresses .entry)) port (now (frame .entry)) ⌝ }
 {
     if fits(cells, links, addresses) {
         if 4 < port {

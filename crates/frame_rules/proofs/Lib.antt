@@ -1,5 +1,5 @@
-pub mod States
 pub mod Arrivals
 pub mod CandidateTests
+pub mod Masks
 pub mod RoomOutcomes
-pub mod TestNumbers
+pub mod LinkWords

@@ -1,27 +1,33 @@
--- What the arrival port gives a frame, by the rules' words: rules 4 to 8, the VID and the PCP. Assumes nothing: these are definitions.
+-- What the arrival port gives a frame, by the rules' words: rules 4 to 8, the VID and the queue.
+-- Assumes nothing: these are definitions.
 use Prim.Native.Nat.{ℕ, _≤_}
 use mathlib.Core.Path.{_≡_}
+use mathlib.Core.Bool.{Bool, _&&_, not}
 use mathlib.Core.List.{List, [], _∷_}
 use lib.Dec.{eqb}
 use lib.ListN.{length}
 use Rattle.rules.specs.Choice.{if_then_else_}
 use Rattle.rules.specs.Lines.{Line, line, first}
-use Rattle.rules.specs.Tags.{headerOf, tagsOf}
+use Rattle.rules.specs.Numbers.{barredVid, managementPort, bpduAddress}
+use Rattle.rules.specs.Tags.{tagsOf, destination}
 use Rattle.rules.specs.Settings.{Port, isBlocking, isListening, isLearning, assignedVid, queuePcp}
-use Rattle.rules.specs.Arguments.{bit, stateOf}
-use Rattle.rules.specs.Reasons.{Reason, tagCount, portBlocking, portListening}
+use Rattle.rules.specs.Arguments.{OperationNumbers, portOf}
+use Rattle.rules.specs.Reasons.{Reason, tagCount, portBlocking, portListening, vid4095, noVlan, reasonNumber}
 use Rattle.machine.specs.CountTheorems.{outcomeNumber}
+use Rattle.packed.specs.Ports.{portIn, defaultOf}
+use Rattle.packed.specs.States.{stateIn}
+use Rattle.packed.specs.Maps.{bpduIn, queueIn}
 use Rattle.frame_rules.specs.declared.arrival.Arrival.{Arrival}
 
--- 4 to 6
-unfoldable pub barRules : ℕ → ℕ → ℕ → List (Line Reason)
-barRules flags state count =
-    line tagCount (bit flags count)
-    ∷ line portBlocking (isBlocking (stateOf state))
-    ∷ line portListening (isListening (stateOf state))
-    ∷ []
+-- a BPDU to port 4, by the word of the queue map
+abbrev pub isBpduBy : ℕ → ℕ → List ℕ → Bool
+isBpduBy map port frame = bpduIn map && not (eqb port managementPort) && eqb (destination frame) bpduAddress
 
--- the same of the rules' port
+-- the port that its word and that of the states give, with any operation
+abbrev pub portBy : ℕ → ℕ → ℕ → OperationNumbers → Port
+portBy word states port operation = portOf (portIn (stateIn states port) operation word)
+
+-- 4 to 6
 unfoldable pub portRules : Port → ℕ → List (Line Reason)
 portRules port count =
     line tagCount (port .bars count)
@@ -29,13 +35,18 @@ portRules port count =
     ∷ line portListening (isListening (port .state))
     ∷ []
 
-unfoldable pub absentReason : ℕ → ℕ
-absentReason vid = if eqb vid 4095 then 7 else 8
+-- the first of them by its number, or 0
+abbrev pub barredBy : Port → ℕ → ℕ
+barredBy port count = outcomeNumber (first (portRules port count))
 
-pub record ArrivalIs (port : Port) (frame : List ℕ) (a : Arrival) : Type 0 where
-  pub learning : a .learning ≡ isLearning (port .state)
-  pub default : headerOf (a .default) ≡ port .default
-  pub pcp : a .pcp ≡ queuePcp (port .default) (tagsOf frame)
-  pub pcp-small : a .pcp ≤ 7
+unfoldable pub absentReason : ℕ → ℕ
+absentReason vid = if eqb vid barredVid then reasonNumber vid4095 else reasonNumber noVlan
+
+-- `map`: the word of the queue map
+pub record ArrivalIs (port : Port) (map : ℕ) (frame : List ℕ) (a : Arrival) : Type 0 where
+  pub learning : a .barred ≡ 0 → a .learning ≡ isLearning (port .state)
+  pub default : defaultOf (a .default) ≡ port .default
+  pub pcp-small : queuePcp (port .default) (tagsOf frame) ≤ 7
+  pub queue : a .queue ≡ queueIn map (queuePcp (port .default) (tagsOf frame))
   pub vid : a .vid ≡ assignedVid (port .assignment) (port .default) (tagsOf frame)
-  pub barred : a .barred ≡ outcomeNumber (first (portRules port (length (tagsOf frame))))
+  pub barred : a .barred ≡ barredBy port (length (tagsOf frame))

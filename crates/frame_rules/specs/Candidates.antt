@@ -1,42 +1,33 @@
--- Each port's test by number, on any link memory: 0 it passes, 1 it is no candidate, 2 its state or its queue switch is out of
--- range, 17 and 18 the counter of the test that takes it out. Assumes nothing: these are definitions.
-use Prim.Native.Nat.{ℕ}
-use mathlib.Core.Bool.{Bool, _&&_, _||_, not}
+-- The tests of the five ports as masks of ports: the candidates, those whose state passes, those left; and when masks
+-- are those of the rules' tests. Assumes nothing: these are definitions.
+use Prim.Native.Nat.{ℕ, _*_, _/_, _^_, _<_}
+use mathlib.Core.Path.{_≡_}
+use mathlib.Core.Bool.{Bool, true, false, not}
 use mathlib.Core.List.{List}
-use lib.Dec.{eqb, leb}
-use lib.ListN.{getD}
-use Rattle.rules.specs.Choice.{if_then_else_}
+use lib.Bits.{bitAnd}
+use lib.Dec.{eqb}
+use Rattle.rules.specs.Choice.{if_then_else_, sift}
+use Rattle.rules.specs.Numbers.{allPorts}
 use Rattle.rules.specs.Tags.{isGroup}
-use Rattle.rules.specs.Settings.{departs}
 use Rattle.rules.specs.Addresses.{key}
-use Rattle.rules.specs.Arguments.{bit, flag, stateOf}
-use Rattle.rules.specs.PortTests.{Test, passes, notMember, arrival, elsewhere, state, queueOff}
-use Rattle.rules.specs.Numbers.{managementPort}
-use Rattle.layout.specs.Places.{portWord, queueSwitchWord}
+use Rattle.rules.specs.Arguments.{bit}
+use Rattle.rules.specs.PortTests.{Test, passes, notMember, arrival, elsewhere, state, queueOff, anyCandidate, portsLeft}
+use Rattle.packed.specs.Bits.{less}
 use Rattle.addresses.specs.Search.{lookUp}
 use Rattle.addresses.specs.declared.LookUp.{LookUp}
 use Rattle.addresses.specs.declared.LookUp.the-variants.{Found, Vacant, Full, Damaged}
-use Rattle.frame_rules.specs.declared.plan.Tests.{Tests}
+use Rattle.frame_rules.specs.declared.plan.Masks.{Masks}
 
--- ---- the rules' tests by number
+-- all five ports, and port 4 alone
+abbrev pub everyPort : ℕ
+everyPort = 31
 
-unfoldable pub testNumber : Test → ℕ
-testNumber passes = 0
-testNumber notMember = 1
-testNumber arrival = 1
-testNumber elsewhere = 1
-testNumber state = 17
-testNumber queueOff = 18
+abbrev pub managementMask : ℕ
+managementMask = 16
 
-abbrev pub numbersOf : (ℕ → Test) → Tests
-numbersOf test =
-    record {
-      zero = testNumber (test 0);
-      one = testNumber (test 1);
-      two = testNumber (test 2);
-      three = testNumber (test 3);
-      four = testNumber (test 4);
-    }
+-- the ports of a mask, in ascending order
+unfoldable pub portsIn : ℕ → List ℕ
+portsIn mask = sift (bit mask) allPorts
 
 -- ---- candidates
 
@@ -44,53 +35,54 @@ numbersOf test =
 unfoldable pub destinationLookUp : List ℕ → ℕ → ℕ → LookUp
 destinationLookUp addresses gid address = if isGroup address then Full else lookUp addresses (key gid address)
 
--- the port that was found; 5: all members
-unfoldable pub chosenPort : LookUp → ℕ
-chosenPort (Found port place) = port
-chosenPort (Vacant place) = 5
-chosenPort Full = 5
-chosenPort Damaged = 5
+-- "a group address, or one not found, has all members as candidates; one found has its port, if a member"
+unfoldable pub chosenMask : LookUp → ℕ
+chosenMask (Found port place) = 2 ^ port
+chosenMask (Vacant place) = everyPort
+chosenMask Full = everyPort
+chosenMask Damaged = everyPort
 
-unfoldable pub isCandidateAt : ℕ → ℕ → ℕ → ℕ → Bool
-isCandidateAt members chosen port other = bit members other && not (eqb other port) && (eqb chosen 5 || eqb chosen other)
+-- the port that was found is one of the five
+pub record ChosenFits (found : LookUp) : Type 0 where
+  pub port-there : (port place : ℕ) → found ≡ Found port place → port < 5
 
--- ---- a candidate's tests
+-- the members that were chosen, without the arrival port
+unfoldable pub candidatesIn : ℕ → ℕ → ℕ → ℕ
+candidatesIn members chosen port = less (bitAnd members chosen) (2 ^ port)
 
-unfoldable pub switchNumber : List ℕ → ℕ → ℕ → ℕ
-switchNumber links queue other =
-    if leb (getD links (queueSwitchWord other queue) 0) 1
-    then (if flag (getD links (queueSwitchWord other queue) 0) then 0 else 18)
-    else 2
+-- ---- a candidate's tests: its state, then its queue switch
 
-unfoldable pub candidateNumber : List ℕ → ℕ → ℕ → ℕ
-candidateNumber links queue other =
-    if leb (getD links (portWord other) 0) 4
-    then (if departs (stateOf (getD links (portWord other) 0)) then switchNumber links queue other else 17)
-    else 2
-
-unfoldable pub portNumber : List ℕ → ℕ → ℕ → ℕ → ℕ → ℕ → ℕ
-portNumber links members chosen port queue other =
-    if isCandidateAt members chosen port other then candidateNumber links queue other else 1
-
-abbrev pub numbersAt : List ℕ → ℕ → ℕ → ℕ → ℕ → Tests
-numbersAt links members chosen port queue =
+unfoldable pub masksOf : ℕ → ℕ → ℕ → ℕ → Masks
+masksOf candidates states switches queue =
     record {
-      zero = portNumber links members chosen port queue 0;
-      one = portNumber links members chosen port queue 1;
-      two = portNumber links members chosen port queue 2;
-      three = portNumber links members chosen port queue 3;
-      four = portNumber links members chosen port queue 4;
+      candidates = candidates;
+      passing = bitAnd candidates states;
+      left = bitAnd (bitAnd candidates states) (switches / 2 ^ (8 * queue));
     }
 
--- "the one candidate 4, queue 3"
-abbrev pub bpduNumbers : List ℕ → Tests
-bpduNumbers links = record { zero = 1; one = 1; two = 1; three = 1; four = switchNumber links 3 managementPort }
+-- ---- the rules' tests by masks
 
--- ---- of the five
+-- taken out by the state; by the queue switch
+unfoldable pub isStateOut : Test → Bool
+isStateOut passes = false
+isStateOut notMember = false
+isStateOut arrival = false
+isStateOut elsewhere = false
+isStateOut state = true
+isStateOut queueOff = false
 
-unfoldable pub anyDamaged : Tests → Bool
-anyDamaged t = eqb (t .zero) 2 || eqb (t .one) 2 || eqb (t .two) 2 || eqb (t .three) 2 || eqb (t .four) 2
+unfoldable pub isQueueOut : Test → Bool
+isQueueOut passes = false
+isQueueOut notMember = false
+isQueueOut arrival = false
+isQueueOut elsewhere = false
+isQueueOut state = false
+isQueueOut queueOff = true
 
-unfoldable pub anyCandidateIn : Tests → Bool
-anyCandidateIn t =
-    not (eqb (t .zero) 1) || not (eqb (t .one) 1) || not (eqb (t .two) 1) || not (eqb (t .three) 1) || not (eqb (t .four) 1)
+-- a candidate that no other mask has fell by its state, one that passes and is not left by its queue switch
+pub record MasksAre (test : ℕ → Test) (m : Masks) : Type 0 where
+  pub small : m .left < 32
+  pub any : not (eqb (m .candidates) 0) ≡ anyCandidate test
+  pub state-out : (r : ℕ) → r < 5 → bit (less (m .candidates) (m .passing)) r ≡ isStateOut (test r)
+  pub queue-out : (r : ℕ) → r < 5 → bit (less (m .passing) (m .left)) r ≡ isQueueOut (test r)
+  pub left : portsIn (m .left) ≡ portsLeft test

@@ -1,52 +1,34 @@
 -- The layout paper, "Cell memory": what is stored with a frame of the rules. Assumes nothing: these are definitions.
-use Prim.Native.Nat.{ℕ, _+_, _*_}
-use mathlib.Core.Bool.{Bool, true, false}
-use lib.Dec.{eqb}
-use lib.ListN.{length}
-use Rattle.rules.specs.Numbers.{customerTag}
+use Prim.Native.Nat.{ℕ}
+use mathlib.Core.List.{List}
+use lib.ListN.{length, getD}
 use Rattle.rules.specs.Choice.{if_then_else_}
-use Rattle.rules.specs.Tags.{Header}
-use Rattle.rules.specs.Operations.{Source, outermost, second, given, Kind, none, pop, push, swap, popAll, Operation}
 use Rattle.rules.specs.Outcomes.{Frame}
+use Rattle.layout.specs.Places.{vlanOperationWord}
+use Rattle.packed.specs.Operations.{operationEnd}
+use Rattle.packed.specs.Ports.{defaultNumber}
+use Rattle.packed.specs.Fresh.{freshOperationWord}
+use Rattle.settings.specs.Table.{foundVlan}
+use Rattle.settings.specs.declared.table.Found.{Found}
+use Rattle.settings.specs.declared.table.Found.the-variants.{At, Nowhere, Damaged}
 use Rattle.cells.specs.declared.stored.StoredHeader.{StoredHeader}
 
--- ---- the numbers of the calls
+-- the word of the operation of the entry that a search found; that of no operation where there is none
+unfoldable pub operationFound : List ℕ → Found → ℕ
+operationFound links (At e) = getD links (vlanOperationWord e) 0
+operationFound links Nowhere = freshOperationWord
+operationFound links Damaged = freshOperationWord
 
-unfoldable pub kindNumber : Kind → ℕ
-kindNumber none = 0
-kindNumber pop = 1
-kindNumber push = 2
-kindNumber swap = 3
-kindNumber popAll = 4
+-- the word of the operation of the VLAN of a VID
+abbrev pub operationFor : List ℕ → ℕ → ℕ
+operationFor links vid = operationFound links (foundVlan links vid)
 
-unfoldable pub typeNumber : ℕ → ℕ
-typeNumber type = if eqb type customerTag then 0 else 1
-
-unfoldable pub sourceNumber : Source → ℕ
-sourceNumber outermost = 0
-sourceNumber second = 1
-sourceNumber given = 2
-
-unfoldable pub flagNumber : Bool → ℕ
-flagNumber true = 1
-flagNumber false = 0
-
--- ---- the stored header
-
--- "PCP · 8192 + DEI · 4096 + VID"
-unfoldable pub headerWord : Header → ℕ
-headerWord h = h .pcp * 8192 + h .dei * 4096 + h .vid
-
--- "kind + 8 · type + 16 · VID source + 64 · PCP source"
-unfoldable pub operationByte : Operation → ℕ
-operationByte o = kindNumber (o .kind) + 8 * typeNumber (o .type) + 16 * sourceNumber (o .vidFrom) + 64 * sourceNumber (o .pcpFrom)
-
-unfoldable pub storedHeader : Frame → StoredHeader
-storedHeader f =
+-- with the word of the VLAN's operation as it stands in link memory; a BPDU has the first word past the operations'
+-- range
+unfoldable pub storedHeader : ℕ → Frame → StoredHeader
+storedHeader operation f =
     record {
       length = length (f .packet .bytes);
-      default = headerWord (f .origin .default);
-      operation = operationByte (f .vlanOperation);
-      exempt = flagNumber (f .exempt);
-      header = headerWord (f .vlanOperation .header);
+      default = defaultNumber (f .origin .default);
+      operation = if f .exempt then operationEnd else operation;
     }

@@ -1,105 +1,121 @@
 // Reasons 1 to 9, and what they read.
 ghost use mathlib.Core.Path.{_≡_};
-ghost use mathlib.Core.Bool.{true, _&&_, not};
-ghost use Prim.Native.Nat.{_≤_, _<_};
-ghost use lib.Dec.{eqb};
+ghost use Prim.Native.Nat.{ℕ, _≤_, _<_};
 ghost use lib.ListN.{length};
 ghost use Rattle.rules.specs.Lines.{first};
-ghost use Rattle.rules.specs.Tags.{destination, headerOf};
-ghost use Rattle.rules.specs.Arguments.{bit, flag, portInRange, portOf, operationInRange, operationOf};
+ghost use Rattle.rules.specs.Tags.{headerOf};
+ghost use Rattle.rules.specs.Arguments.{OperationNumbers, portOf};
 ghost use Rattle.rules.specs.Facts.{Facts};
 ghost use Rattle.rules.specs.ReasonTable.{reading, rowsOf};
 ghost use Rattle.machine.specs.CountTheorems.{outcomeNumber};
-ghost use Rattle.settings.specs.Records.{portIs, operationIs};
-ghost use Rattle.frame_rules.specs.Stored.{operationByte};
-ghost use Rattle.frame_rules.specs.Arrivals.{barRules, absentReason, ArrivalIs};
-use settings::operation::OperationSettings;
-use settings::port::PortSettings;
+ghost use Rattle.packed.specs.Ports.{portIn, vidEnd, defaultIn};
+ghost use Rattle.frame_rules.specs.Arrivals.{isBpduBy, portBy, barredBy, absentReason, ArrivalIs};
+use crate::reasons::GROUP_SOURCE;
+use crate::reasons::LONG;
+use crate::reasons::NO_VLAN;
+use crate::reasons::SHORT;
+use crate::reasons::TAG_COUNT;
+use crate::reasons::VID_4095;
+use packed::bits::bit;
+use packed::map::bpdu_in;
+use packed::map::queue_in;
+use packed::port::assignment_in;
+use packed::port::bars;
+use packed::states::bar;
 use tags::headers::assigned_vid;
-use tags::headers::header;
 use tags::headers::queue_pcp;
 use tags::reading::address_at;
 use tags::reading::decode;
 use tags::reading::is_group;
 
+const BPDU_ADDRESS: u64 = 0x0180_C200_0000;
+
+const MANAGEMENT_PORT: u32 = 4;
+
+const BARRED_VID: u32 = 4095;
+
 // 1 to 3: the frame alone, whatever its other facts are.
 pub fn early(frame: &[u8]) -> u32
-    ensures { λ r. ⌜ ((f : Facts) → f .packet .bytes ≡ now (frame .entry) → r ≡ outcomeNumber (first (rowsOf reading f))) ⌝ }
+    ensures { λ r. ⌜ ((f : Facts) → f .packet .bytes ≡ now (frame .entry)
+        → r ≡ outcomeNumber (first (rowsOf reading f))) ⌝ }
 {
     if frame.len() < 60 {
-        return 1;
+        return SHORT;
     }
     if 4083 < frame.len() {
-        return 2;
+        return LONG;
     }
     if is_group(address_at(frame, 6)) {
-        return 3;
+        return GROUP_SOURCE;
     }
     0
 }
 
-// Bit i of a mask of ports or of the flags.
-pub fn bit(mask: u32, i: u32) -> bool
-    requires { ⌜ i < 8 ⌝ }
-    ensures { λ r. ⌜ r ≡ bit mask i ⌝ }
-{
-    (mask >> i) % 2 == 1
-}
-
-pub fn is_bpdu(handling: u32, port: u32, frame: &[u8]) -> bool
+// "Destination 01:80:C2:00:00:00 arriving on a port other than 4, with BPDU handling on."
+pub fn is_bpdu(map: u32, port: u32, frame: &[u8]) -> bool
     requires { ⌜ 60 ≤ length (now frame) ⌝ }
-    ensures { λ r. ⌜ r ≡ (flag handling && not (eqb port 4) && eqb (destination (now (frame .entry))) 0x0180_C200_0000) ⌝ }
+    ensures { λ r. ⌜ r ≡ isBpduBy map port (now (frame .entry)) ⌝ }
 {
-    (handling == 1) & (port != 4) & (address_at(frame, 0) == 0x0180_C200_0000)
+    if address_at(frame, 0) == BPDU_ADDRESS {
+        return bpdu_in(map) & (port != MANAGEMENT_PORT);
+    }
+    false
 }
 
 // The arrival port as the later rules need it.
 pub struct Arrival {
+    // of a port that does not bar
     pub learning: bool,
+    // as it is stored
     pub default: u16,
-    pub pcp: u32,
+    pub queue: u32,
     pub vid: u32,
     // 4 to 6, or 0
     pub barred: u32,
 }
 
 // The port's default header.
-pub fn default_header(settings: PortSettings) -> u16
-    requires { ⌜ portInRange (portIs settings) ≡ true ⌝ }
-    ensures { λ r. ⌜ headerOf r ≡ portOf (portIs settings) .default ⌝ }
+pub fn default_header(word: u32) -> u16
+    requires { ⌜ word < vidEnd ⌝ }
+    ensures { λ r. ⌜ ((state : ℕ) (o : OperationNumbers) → headerOf r ≡ portOf (portIn state o word) .default) ⌝ }
 {
-    header(settings.pcp, settings.dei, settings.vid)
+    packed::port::default_header(word) as u16
+}
+
+// The same as it is stored with a frame: without the fields below it.
+pub fn stored_default(word: u32) -> u16
+    requires { ⌜ word < vidEnd ⌝ }
+    ensures { λ r. ⌜ r ≡ defaultIn word ⌝ }
+{
+    (word / 32) as u16
 }
 
 // 4 to 6.
-fn barred(flags: u32, state: u32, count: u32) -> u32
-    requires { ⌜ count ≤ 2 ⌝ }
-    ensures { λ r. ⌜ r ≡ outcomeNumber (first (barRules flags state count)) ⌝ }
+fn barred(word: u32, states: u32, port: u32, count: u32) -> u32
+    requires { ⌜ (port ≤ 4) × (count ≤ 2) ⌝ }
+    ensures { λ r. ⌜ ((o : OperationNumbers) → r ≡ barredBy (portBy word states port o) count) ⌝ }
 {
-    if bit(flags, count) {
-        return 4;
+    if bars(word, count) {
+        return TAG_COUNT;
     }
-    if state == 1 {
-        return 5;
-    }
-    if state == 2 {
-        return 6;
-    }
-    0
+    bar(states, port)
 }
 
-pub fn arrival_of(settings: PortSettings, default: u16, frame: &[u8]) -> Arrival
-    requires { ⌜ (portInRange (portIs settings) ≡ true) × (headerOf default ≡ portOf (portIs settings) .default) × (60 ≤ length (now frame)) ⌝ }
-    ensures { λ r. ⌜ ArrivalIs (portOf (portIs settings)) (now (frame .entry)) r ⌝ }
+pub fn arrival_of(word: u32, states: u32, map: u32, port: u32, frame: &[u8]) -> Arrival
+    requires { ⌜ (word < vidEnd) × (port ≤ 4) × (60 ≤ length (now frame)) ⌝ }
+    ensures { λ r. ⌜ ((o : OperationNumbers) → ArrivalIs (portBy word states port o) map (now (frame .entry)) r) ⌝ }
 {
+    let header = default_header(word);
     let tags = decode(frame);
-    let pcp = queue_pcp(default, tags);
-    let vid = assigned_vid(settings.assignment, default, tags);
-    let reason = barred(settings.flags, settings.state, tags.count as u32);
+    let queue = queue_in(map, queue_pcp(header, tags));
+    let vid = assigned_vid(assignment_in(word), header, tags);
+    let reason = barred(word, states, port, tags.count as u32);
+    let learning = !bit(states, port);
+    let default = stored_default(word);
     Arrival {
-        learning: settings.state == 3,
+        learning,
         default,
-        pcp,
+        queue,
         vid,
         barred: reason,
     }
@@ -109,24 +125,5 @@ pub fn arrival_of(settings: PortSettings, default: u16, frame: &[u8]) -> Arrival
 pub fn absent(vid: u32) -> u32
     ensures { λ r. ⌜ r ≡ absentReason vid ⌝ }
 {
-    if vid == 4095 { 7 } else { 8 }
-}
-
-// Byte 4 of the stored header.
-pub fn operation_byte(operation: OperationSettings) -> u8
-    requires { ⌜ operationInRange (operationIs operation) ≡ true ⌝ }
-    ensures { λ r. ⌜ r ≡ operationByte (operationOf (operationIs operation)) ⌝ }
-{
-    (operation.kind
-        + 8 * operation.tag_type
-        + 16 * operation.vid_source
-        + 64 * operation.pcp_source) as u8
-}
-
-// Bytes 6 and 7 of the stored header.
-pub fn operation_header(operation: OperationSettings) -> u16
-    requires { ⌜ operationInRange (operationIs operation) ≡ true ⌝ }
-    ensures { λ r. ⌜ headerOf r ≡ operationOf (operationIs operation) .header ⌝ }
-{
-    header(operation.pcp, operation.dei, operation.vid)
+    if vid == BARRED_VID { VID_4095 } else { NO_VLAN }
 }

@@ -1,19 +1,22 @@
-// Which ports are candidates, and each candidate's tests.
+// Which ports are candidates, and the tests of all five at once, as masks.
 ghost use mathlib.Core.Path.{_≡_};
 ghost use Prim.Native.Nat.{_^_, _≤_, _<_};
 ghost use lib.ListN.{length};
 ghost use Rattle.addresses.specs.Search as search;
-ghost use Rattle.frame_rules.specs.Candidates.{destinationLookUp, chosenPort, isCandidateAt, candidateNumber, switchNumber, portNumber, numbersAt, bpduNumbers, anyDamaged, anyCandidateIn};
-use crate::arrival::bit;
-use crate::plan::Tests;
+ghost use Rattle.frame_rules.specs.Candidates.{destinationLookUp, chosenMask, ChosenFits, candidatesIn, masksOf};
+use crate::plan::Masks;
 use addresses::LookUp;
 use addresses::key_of;
 use addresses::look_up;
+use packed::bits::less;
+use packed::bits::power;
+use packed::switches::switches_of;
 use tags::reading::is_group;
-use words::word::Word;
 
-// No port: all members.
-const EVERY_PORT: u32 = 5;
+// The mask of all five ports, and that of port 4.
+pub const EVERY_PORT: u32 = 31;
+
+pub const MANAGEMENT: u32 = 16;
 
 // A group address is not looked up: nothing is found, and nothing is marked.
 pub fn destination_look_up(addresses: &[u64], gid: u32, destination: u64) -> LookUp
@@ -39,97 +42,33 @@ pub fn is_damaged(found: LookUp) -> bool
 
 // "A group address, or one not found, has all members as candidates; one found has its port."
 pub fn chosen(found: LookUp) -> u32
-    ensures { λ r. ⌜ r ≡ chosenPort found ⌝ }
+    requires { ⌜ ChosenFits found ⌝ }
+    ensures { λ r. ⌜ r ≡ chosenMask found ⌝ }
 {
     let LookUp::Found { port, place: _ } = found else {
         return EVERY_PORT;
     };
-    port
+    power(port)
 }
 
-fn is_candidate(members: u32, choice: u32, port: u32, other: u32) -> bool
-    requires { ⌜ other < 8 ⌝ }
-    ensures { λ r. ⌜ r ≡ isCandidateAt members choice port other ⌝ }
+// The members that were chosen, without the arrival port.
+pub fn candidates(members: u32, chosen: u32, port: u32) -> u32
+    requires { ⌜ port ≤ 4 ⌝ }
+    ensures { λ r. ⌜ r ≡ candidatesIn members chosen port ⌝ }
 {
-    bit(members, other) & (other != port) & ((choice == EVERY_PORT) | (choice == other))
+    less(members & chosen, power(port))
 }
 
 // "Candidates not Disabled or Forwarding fall out; then those whose queue is off."
-fn candidate_test(links: &[u32], queue: u32, other: u32) -> u32
-    requires { ⌜ (640 ≤ length (now links)) × (queue ≤ 3) × (other ≤ 4) ⌝ }
-    ensures { λ r. ⌜ r ≡ candidateNumber (now (links .entry)) queue other ⌝ }
+pub fn masks_of(candidates: u32, states: u32, switches: u32, queue: u32) -> Masks
+    requires { ⌜ queue ≤ 3 ⌝ }
+    ensures { λ r. ⌜ r ≡ masksOf candidates states switches queue ⌝ }
 {
-    let state = links[layout::PORT + layout::PORT_STRIDE * (other as usize)];
-    if 4 < state {
-        return 2;
+    let passing = candidates & states;
+    let left = passing & switches_of(switches, queue);
+    Masks {
+        candidates,
+        passing,
+        left,
     }
-    if (state == 0) | (state == 4) {
-        return switch_test(links, queue, other);
-    }
-    17
-}
-
-fn switch_test(links: &[u32], queue: u32, other: u32) -> u32
-    requires { ⌜ (640 ≤ length (now links)) × (queue ≤ 3) × (other ≤ 4) ⌝ }
-    ensures { λ r. ⌜ r ≡ switchNumber (now (links .entry)) queue other ⌝ }
-{
-    let Word::Within(on) = words::word::queue_switch(links, other as usize, queue as usize) else {
-        return 2;
-    };
-    if on == 1 { 0 } else { 18 }
-}
-
-fn port_test(links: &[u32], members: u32, choice: u32, port: u32, queue: u32, other: u32) -> u32
-    requires { ⌜ (640 ≤ length (now links)) × (queue ≤ 3) × (other ≤ 4) ⌝ }
-    ensures { λ r. ⌜ r ≡ portNumber (now (links .entry)) members choice port queue other ⌝ }
-{
-    if is_candidate(members, choice, port, other) {
-        return candidate_test(links, queue, other);
-    }
-    1
-}
-
-pub fn tests_of(links: &[u32], members: u32, choice: u32, port: u32, queue: u32) -> Tests
-    requires { ⌜ (640 ≤ length (now links)) × (queue ≤ 3) ⌝ }
-    ensures { λ r. ⌜ r ≡ numbersAt (now (links .entry)) members choice port queue ⌝ }
-{
-    let zero = port_test(links, members, choice, port, queue, 0);
-    let one = port_test(links, members, choice, port, queue, 1);
-    let two = port_test(links, members, choice, port, queue, 2);
-    let three = port_test(links, members, choice, port, queue, 3);
-    let four = port_test(links, members, choice, port, queue, 4);
-    Tests {
-        zero,
-        one,
-        two,
-        three,
-        four,
-    }
-}
-
-// A BPDU "has the one candidate 4, queue 3"; only its queue switch applies.
-pub fn bpdu_tests(links: &[u32]) -> Tests
-    requires { ⌜ 640 ≤ length (now links) ⌝ }
-    ensures { λ r. ⌜ r ≡ bpduNumbers (now (links .entry)) ⌝ }
-{
-    let four = switch_test(links, 3, 4);
-    Tests {
-        zero: 1,
-        one: 1,
-        two: 1,
-        three: 1,
-        four,
-    }
-}
-
-pub fn any_damaged(tests: Tests) -> bool
-    ensures { λ r. ⌜ r ≡ anyDamaged tests ⌝ }
-{
-    (tests.zero == 2) | (tests.one == 2) | (tests.two == 2) | (tests.three == 2) | (tests.four == 2)
-}
-
-pub fn any_candidate(tests: Tests) -> bool
-    ensures { λ r. ⌜ r ≡ anyCandidateIn tests ⌝ }
-{
-    (tests.zero != 1) | (tests.one != 1) | (tests.two != 1) | (tests.three != 1) | (tests.four != 1)
 }

@@ -1,6 +1,7 @@
 // What a frame-in has decided before its first write, by value.
 ghost use mathlib.Core.Path.{_≡_};
-ghost use Rattle.frame_rules.specs.Plans.{noLesson, noTests, noHeader, damagedPlan, dropPlan, lessonPlan, offerPlan};
+ghost use Rattle.frame_rules.specs.Plans.{noLesson, noMasks, noHeader};
+ghost use Rattle.frame_rules.specs.Plans.{damagedPlan, dropPlan, lessonPlan, offerPlan};
 use addresses::LookUp;
 use cells::stored::StoredHeader;
 
@@ -12,13 +13,13 @@ pub struct Lesson {
     pub key: u64,
 }
 
-// A port's test by number: 0 it passes, 1 it is no candidate, 2 damage was met, 17 and 18 the counter of the test that takes it out.
-pub struct Tests {
-    pub zero: u32,
-    pub one: u32,
-    pub two: u32,
-    pub three: u32,
-    pub four: u32,
+// The ports' tests as masks of ports: each is what the one before it keeps.
+pub struct Masks {
+    pub candidates: u32,
+    // the state is Disabled or Forwarding
+    pub passing: u32,
+    // the queue is on
+    pub left: u32,
 }
 
 // Reason 0: the frame is queued at the ports left.
@@ -26,7 +27,7 @@ pub struct Plan {
     pub damaged: bool,
     pub reason: u32,
     pub lesson: Lesson,
-    pub tests: Tests,
+    pub masks: Masks,
     pub left: u32,
     pub queue: u32,
     pub header: StoredHeader,
@@ -34,7 +35,7 @@ pub struct Plan {
 
 // What is queued where no reason holds: the ports' tests, the queue and what is stored with the frame.
 pub struct Offer {
-    pub tests: Tests,
+    pub masks: Masks,
     pub queue: u32,
     pub header: StoredHeader,
 }
@@ -50,15 +51,13 @@ pub fn no_lesson() -> Lesson
     }
 }
 
-fn no_tests() -> Tests
-    ensures { λ r. ⌜ r ≡ noTests ⌝ }
+fn no_masks() -> Masks
+    ensures { λ r. ⌜ r ≡ noMasks ⌝ }
 {
-    Tests {
-        zero: 1,
-        one: 1,
-        two: 1,
-        three: 1,
-        four: 1,
+    Masks {
+        candidates: 0,
+        passing: 0,
+        left: 0,
     }
 }
 
@@ -69,8 +68,6 @@ fn no_header() -> StoredHeader
         length: 0,
         default: 0,
         operation: 0,
-        exempt: 0,
-        header: 0,
     }
 }
 
@@ -81,7 +78,7 @@ pub fn damaged_plan() -> Plan
         damaged: true,
         reason: 0,
         lesson: no_lesson(),
-        tests: no_tests(),
+        masks: no_masks(),
         left: 0,
         queue: 0,
         header: no_header(),
@@ -96,7 +93,7 @@ pub fn lesson_plan(reason: u32, lesson: Lesson) -> Plan
         damaged: false,
         reason,
         lesson,
-        tests: no_tests(),
+        masks: no_masks(),
         left: 0,
         queue: 0,
         header: no_header(),
@@ -113,13 +110,13 @@ pub fn drop_plan(reason: u32) -> Plan
 pub fn offer_plan(reason: u32, lesson: Lesson, offer: Offer, left: u32) -> Plan
     ensures { λ r. ⌜ r ≡ offerPlan reason lesson offer left ⌝ }
 {
-    let tests = offer.tests;
+    let masks = offer.masks;
     let header = offer.header;
     Plan {
         damaged: false,
         reason,
         lesson,
-        tests,
+        masks,
         left,
         queue: offer.queue,
         header,

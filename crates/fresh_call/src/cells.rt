@@ -1,10 +1,13 @@
 // The cells' records of a fresh switch: all cells free, in order.
 use crate::words::fill;
+use layout::CELL_STRIDE;
+use layout::FRAME;
+use layout::NEXT;
 ghost use mathlib.Core.Path.{_≡_};
 ghost use Prim.Native.Nat.{_+_, _<_, _≤_};
 ghost use lib.ListN.{length};
 ghost use lib.Seq.{sets};
-ghost use Rattle.layout.specs.Places.{nextWord, linkWords};
+ghost use Rattle.layout.specs.Places.{cellWords, nextWord, linkWords};
 ghost use Rattle.fresh_call.specs.Words.{freshNext, freshCell, freshCells};
 
 // The free list: each cell's next is the one after it, the last one's is 0.
@@ -19,16 +22,16 @@ fn next_of(n: usize, cell: usize) -> u32
 }
 
 fn start_cell(links: &mut [u32], cell: usize, next: u32)
-    requires { ⌜ nextWord cell + 24 ≤ length (now links) ⌝ }
+    requires { ⌜ nextWord cell + cellWords ≤ length (now links) ⌝ }
     ensures { λ _. ⌜ now (links .exit) ≡ sets (now (links .entry)) (nextWord cell) (freshCell next) ⌝ }
 {
-    links[640 + 24 * cell] = next;
-    fill(links, 641 + 24 * cell, 23, 0);
+    links[NEXT + CELL_STRIDE * cell] = next;
+    fill(links, FRAME + CELL_STRIDE * cell, CELL_STRIDE - 1, 0);
 }
 
 pub fn start_cells(links: &mut [u32], n: usize)
     requires { ⌜ (n ≤ 2048) × (linkWords n ≤ length (now links)) ⌝ }
-    ensures { λ _. ⌜ now (links .exit) ≡ sets (now (links .entry)) 640 (freshCells n n 0) ⌝ }
+    ensures { λ _. ⌜ now (links .exit) ≡ sets (now (links .entry)) (nextWord 0) (freshCells n n 0) ⌝ }
 {
     let mut cell = 0;
     while cell < n {

@@ -1,6 +1,6 @@
 // The fresh call: it writes every word of link memory, in order, and every place of address memory.
-mod words; // words 0 to 63
-mod records; // words 64 to 639
+mod words; // the words of the whole switch
+mod records; // the VLAN table and the ports' records
 mod cells; // the cells' records
 
 use crate::cells::start_cells;
@@ -8,6 +8,8 @@ use crate::records::start_ports;
 use crate::records::start_vlans;
 use crate::words::start_switch;
 use addresses::forget_all;
+use layout::CELL_STRIDE;
+use layout::FIXED_WORDS;
 use lent::Answer;
 use lent::done;
 use lent::refused;
@@ -23,8 +25,8 @@ fn start_links(links: &mut [u32], n: usize)
     ensures { λ _. ⌜ now (links .exit) ≡ freshLinks n ⌝ }
 {
     start_switch(links, n as u32);
-    start_ports(links);
     start_vlans(links);
+    start_ports(links);
     start_cells(links, n);
 }
 
@@ -35,12 +37,13 @@ fn lengths_fit(cells: &[u8], links: &[u32], addresses: &[u64]) -> bool
     (64 <= n)
         & (n <= 2048)
         & (cells.len() == 80 * n)
-        & (links.len() == 640 + 24 * n)
+        & (links.len() == FIXED_WORDS + CELL_STRIDE * n)
         & (addresses.len() == 4112)
 }
 
 pub fn fresh(cells: &[u8], links: &mut [u32], addresses: &mut [u64]) -> Answer
-    ensures { λ r. ⌜ (r, (now (cells .exit), now (links .exit), now (addresses .exit))) ≡ freshCall (now (cells .entry)) (now (links .entry)) (now (addresses .entry)) ⌝ }
+    ensures { λ r. ⌜ (r, (now (cells .exit), now (links .exit), now (addresses .exit)))
+        ≡ freshCall (now (cells .entry)) (now (links .entry)) (now (addresses .entry)) ⌝ }
 {
     if lengths_fit(cells, links, addresses) {
         start_links(links, cells.len() / 80);

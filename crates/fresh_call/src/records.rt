@@ -1,16 +1,24 @@
-// Words 64 to 639 of a fresh switch: the ports, the VLAN table, the counters and the rings.
+// The VLAN table of a fresh switch, and the ports' records.
 use crate::words::fill;
-use settings::operation::OperationSettings;
-use settings::port::PortSettings;
-use settings::port::write_port;
-use settings::vlan::VlanSettings;
+use layout::COUNTER;
+use layout::PORT;
+use layout::PORT_OPERATION;
+use layout::PORT_STRIDE;
+use layout::VLAN;
+use layout::VLAN_STRIDE;
+use packed::operation::OperationSettings;
+use packed::operation::pack_operation;
+use packed::port::PortSettings;
+use packed::port::pack_port;
+use packed::vlan::VlanSettings;
 use settings::vlan::write_vlan;
 ghost use mathlib.Core.Path.{_≡_};
 ghost use Prim.Native.Nat.{_<_, _≤_};
 ghost use lib.ListN.{length};
 ghost use lib.Seq.{sets};
-ghost use Rattle.layout.specs.Places.{portWord};
-ghost use Rattle.settings.specs.Records.{operationIs, portIs, vlanIs};
+ghost use Rattle.layout.specs.Places.{fixedWords, portRecord, vlanWord};
+ghost use Rattle.packed.specs.Operations.{operationIs};
+ghost use Rattle.packed.specs.Ports.{portIs, vlanIs};
 ghost use Rattle.settings.specs.SettingsOf.{freshOperation, freshPort, freshVlan};
 ghost use Rattle.fresh_call.specs.Words.{freshPortRecord, freshPorts, freshVlans};
 
@@ -55,17 +63,27 @@ fn fresh_vlan() -> VlanSettings
     }
 }
 
+// The words of a port's record before its own, and those behind its operation's.
+const COUNTERS: usize = PORT - COUNTER;
+
+const REST: usize = PORT_STRIDE - COUNTERS - 2;
+
 fn start_port(links: &mut [u32], port: usize)
-    requires { ⌜ (port < 5) × (640 ≤ length (now links)) ⌝ }
-    ensures { λ _. ⌜ now (links .exit) ≡ sets (now (links .entry)) (portWord port) freshPortRecord ⌝ }
+    requires { ⌜ (port < 5) × (fixedWords ≤ length (now links)) ⌝ }
+    ensures { λ _. ⌜ now (links .exit) ≡ sets (now (links .entry)) (portRecord port) freshPortRecord ⌝ }
 {
-    write_port(links, port, fresh_port());
-    fill(links, 77 + 16 * port, 3, 0);
+    let settings = fresh_port();
+    let own = pack_port(settings);
+    let operation = pack_operation(settings.operation);
+    fill(links, COUNTER + PORT_STRIDE * port, COUNTERS, 0);
+    links[PORT + PORT_STRIDE * port] = own;
+    links[PORT_OPERATION + PORT_STRIDE * port] = operation;
+    fill(links, PORT_OPERATION + 1 + PORT_STRIDE * port, REST, 0);
 }
 
 pub fn start_ports(links: &mut [u32])
-    requires { ⌜ 640 ≤ length (now links) ⌝ }
-    ensures { λ _. ⌜ now (links .exit) ≡ sets (now (links .entry)) 64 (freshPorts 5) ⌝ }
+    requires { ⌜ fixedWords ≤ length (now links) ⌝ }
+    ensures { λ _. ⌜ now (links .exit) ≡ sets (now (links .entry)) (portRecord 0) (freshPorts 5) ⌝ }
 {
     let mut port = 0;
     while port < 5 {
@@ -75,9 +93,9 @@ pub fn start_ports(links: &mut [u32])
 }
 
 pub fn start_vlans(links: &mut [u32])
-    requires { ⌜ 640 ≤ length (now links) ⌝ }
-    ensures { λ _. ⌜ now (links .exit) ≡ sets (now (links .entry)) 144 freshVlans ⌝ }
+    requires { ⌜ fixedWords ≤ length (now links) ⌝ }
+    ensures { λ _. ⌜ now (links .exit) ≡ sets (now (links .entry)) (vlanWord 0) freshVlans ⌝ }
 {
     write_vlan(links, 0, fresh_vlan());
-    fill(links, 154, 486, 0);
+    fill(links, VLAN + VLAN_STRIDE, COUNTER - VLAN - VLAN_STRIDE, 0);
 }

@@ -1,9 +1,21 @@
-// Words 0 to 63 of a fresh switch, and a run of one value.
+// The words of the whole switch, before the VLANs', and a run of one value.
+use layout::CELL_COUNT;
+use layout::FIRST_FREE;
+use layout::FREE_COUNT;
+use layout::MAP;
+use layout::STATES;
+use layout::SWITCHES;
+use layout::VLAN;
+use layout::VLAN_COUNT;
+use packed::map::FRESH_MAP;
+use packed::states::FRESH_STATES;
+use packed::switches::FRESH_SWITCHES;
 ghost use mathlib.Core.Path.{_≡_};
 ghost use Prim.Native.Nat.{_+_, _≤_};
 ghost use lib.ListN.{length};
 ghost use lib.Seq.{sets};
-ghost use Rattle.fresh_call.specs.Words.{copies, freshFront, freshCounts, freshSwitch};
+ghost use Rattle.layout.specs.Places.{fixedWords};
+ghost use Rattle.fresh_call.specs.Words.{copies, freshFront, freshSwitch};
 
 // Writes `value` into `count` words from word `at` on.
 pub fn fill(links: &mut [u32], at: usize, count: usize, value: u32)
@@ -17,39 +29,25 @@ pub fn fill(links: &mut [u32], at: usize, count: usize, value: u32)
     }
 }
 
-// The cell count, BPDU handling, and the queue of each PCP.
+// The cell count, the map, the switches, the free cells and the VLANs in use.
 fn start_front(links: &mut [u32], n: u32)
-    requires { ⌜ 640 ≤ length (now links) ⌝ }
+    requires { ⌜ fixedWords ≤ length (now links) ⌝ }
     ensures { λ _. ⌜ now (links .exit) ≡ sets (now (links .entry)) 0 (freshFront n) ⌝ }
 {
-    links[0] = n;
-    links[1] = 1;
-    links[2] = 0;
-    links[3] = 0;
-    links[4] = 1;
-    links[5] = 1;
-    links[6] = 2;
-    links[7] = 2;
-    links[8] = 3;
-    links[9] = 3;
-}
-
-// VLANs in use, free cells, the first free cell.
-fn start_counts(links: &mut [u32], n: u32)
-    requires { ⌜ 640 ≤ length (now links) ⌝ }
-    ensures { λ _. ⌜ now (links .exit) ≡ sets (now (links .entry)) 30 (freshCounts n) ⌝ }
-{
-    links[30] = 1;
-    links[31] = n;
-    links[32] = 0;
+    links[CELL_COUNT] = n;
+    links[MAP] = FRESH_MAP;
+    links[SWITCHES] = FRESH_SWITCHES;
+    links[FREE_COUNT] = n;
+    links[FIRST_FREE] = 0;
+    links[VLAN_COUNT] = 1;
 }
 
 pub fn start_switch(links: &mut [u32], n: u32)
-    requires { ⌜ 640 ≤ length (now links) ⌝ }
+    requires { ⌜ fixedWords ≤ length (now links) ⌝ }
     ensures { λ _. ⌜ now (links .exit) ≡ sets (now (links .entry)) 0 (freshSwitch n) ⌝ }
 {
     start_front(links, n);
-    fill(links, 10, 20, 1);
-    start_counts(links, n);
-    fill(links, 33, 31, 0);
+    fill(links, VLAN_COUNT + 1, STATES - VLAN_COUNT - 1, 0);
+    links[STATES] = FRESH_STATES;
+    fill(links, STATES + 1, VLAN - STATES - 1, 0);
 }

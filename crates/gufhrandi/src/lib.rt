@@ -1,4 +1,5 @@
-// The C interface: each function is the call of its name, and promises what the call does. include/gufhrandi.h declares them.
+// The C interface: each function is the call of its name, and promises what the call does. include/gufhrandi.h declares
+// them.
 ghost use mathlib.Core.Path.{_≡_};
 ghost use Rattle.lent.specs.Lengths.{linkWordsFor};
 ghost use Rattle.fresh_call.specs.Calls.{freshCall};
@@ -20,7 +21,8 @@ pub extern "C" fn gufhrandi_link_words(cell_count: u32) -> u64
 
 #[no_mangle]
 pub extern "C" fn gufhrandi_fresh(cells: &[u8], links: &mut [u32], addresses: &mut [u64]) -> Answer
-    ensures { λ r. ⌜ (r, (now (cells .exit), now (links .exit), now (addresses .exit))) ≡ freshCall (now (cells .entry)) (now (links .entry)) (now (addresses .entry)) ⌝ }
+    ensures { λ r. ⌜ (r, (now (cells .exit), now (links .exit), now (addresses .exit)))
+        ≡ freshCall (now (cells .entry)) (now (links .entry)) (now (addresses .entry)) ⌝ }
 {
     fresh_call::fresh(cells, links, addresses)
 }
@@ -33,7 +35,8 @@ pub extern "C" fn gufhrandi_frame_in(
     port: u32,
     frame: &[u8],
 ) -> Answer
-    ensures { λ r. ⌜ (r, (now (cells .exit), now (links .exit), now (addresses .exit))) ≡ frameInCall (now (cells .entry)) (now (links .entry)) (now (addresses .entry)) port (now (frame .entry)) ⌝ }
+    ensures { λ r. ⌜ (r, (now (cells .exit), now (links .exit), now (addresses .exit)))
+        ≡ frameInCall (now (cells .entry)) (now (links .entry)) (now (addresses .entry)) port (now (frame .entry)) ⌝ }
 {
     frame_in::frame_in(cells, links, addresses, port, frame)
 }
@@ -45,7 +48,8 @@ pub extern "C" fn gufhrandi_take(
     port: u32,
     out: &mut [u8],
 ) -> Answer
-    ensures { λ r. ⌜ (r, (now (links .exit), now (out .exit))) ≡ takeCall (now (cells .entry)) (now (links .entry)) port (now (out .entry)) ⌝ }
+    ensures { λ r. ⌜ (r, (now (links .exit), now (out .exit)))
+        ≡ takeCall (now (cells .entry)) (now (links .entry)) port (now (out .entry)) ⌝ }
 {
     take_out::take_into(cells, links, port, out)
 }
@@ -82,7 +86,25 @@ pub extern "C" fn gufhrandi_port(
     op_pcp: u32,
     op_dei: u32,
 ) -> Answer
-    ensures { λ r. ⌜ (r, now (links .exit)) ≡ portCall (now (links .entry)) port (record { state = state; assignment = assignment; vid = vid; pcp = pcp; dei = dei; flags = flags; operation = record { kind = kind; type = «tag_type»; vidSource = «vid_source»; pcpSource = «pcp_source»; vid = «op_vid»; pcp = «op_pcp»; dei = «op_dei» } }) ⌝ }
+    ensures { λ r. ⌜ (r, now (links .exit))
+        ≡ portCall (now (links .entry)) port
+        (record {
+          state = state;
+          assignment = assignment;
+          vid = vid;
+          pcp = pcp;
+          dei = dei;
+          flags = flags;
+          operation = record {
+            kind = kind;
+            type = «tag_type»;
+            vidSource = «vid_source»;
+            pcpSource = «pcp_source»;
+            vid = «op_vid»;
+            pcp = «op_pcp»;
+            dei = «op_dei»;
+          };
+        }) ⌝ }
 {
     setting_calls::port::set_port(
         links,
@@ -117,7 +139,22 @@ pub extern "C" fn gufhrandi_vlan(
     op_pcp: u32,
     op_dei: u32,
 ) -> Answer
-    ensures { λ r. ⌜ (r, now (links .exit)) ≡ vlanCall (now (links .entry)) (record { vid = vid; members = members; gid = gid; operation = record { kind = kind; type = «tag_type»; vidSource = «vid_source»; pcpSource = «pcp_source»; vid = «op_vid»; pcp = «op_pcp»; dei = «op_dei» } }) ⌝ }
+    ensures { λ r. ⌜ (r, now (links .exit))
+        ≡ vlanCall (now (links .entry)) (record {
+          vid = vid;
+          members = members;
+          gid = gid;
+          operation = record {
+            kind = kind;
+            type = «tag_type»;
+            vidSource = «vid_source»;
+            pcpSource = «pcp_source»;
+            vid = «op_vid»;
+            pcp =
+                «op_pcp»;
+            dei = «op_dei»;
+          };
+        }) ⌝ }
 {
     setting_calls::vlan::set_vlan(
         links,

@@ -22,7 +22,7 @@ use Rattle.machine.specs.State.{State, setTable, age, static, remove}
 use Rattle.machine.specs.SettingCalls.{silently}
 use Rattle.machine.specs.Machine.{linesOf, ageStep, carryOut, next}
 use Rattle.lent.specs.Lengths.{addressesFit}
-use Rattle.lent.specs.Fits.{addresses-fit}
+use Rattle.lent.proofs.Fits.{addresses-fit}
 use Rattle.lent.specs.Answers.{doneWith}
 use Rattle.addresses.specs.Search.{lookUp, full, damaged}
 use Rattle.addresses.specs.Writes.{agedBy, staticBy, removedBy}

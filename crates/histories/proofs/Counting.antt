@@ -5,7 +5,6 @@ use mathlib.Core.List.{List, [], _∷_}
 use native.Mathlib.Omega.{arith}
 use lib.Dec.{eqb}
 use lib.ListN.{length, length-set}
-use lib.Seq.{getD-set-other}
 use borrow.Author.Tests.{eqb-true, eqb-false}
 use Rattle.rules.specs.Choice.{Each, also}
 use Rattle.rules.specs.Reasons.{Reason, reasonNumber, short, long, groupSource, tagCount, portBlocking, portListening, vid4095, noVlan, noMember, portLearning, noCandidate, noPortLeft, noRoom}
@@ -13,16 +12,15 @@ use Rattle.rules.specs.Counters.{Counter, counterNumber, offered, accepted, not
 use Rattle.rules.specs.Numbers.{lastCounter}
 use Rattle.rules.proofs.Choice.{on}
 use Rattle.machine.specs.Events.{Event, Counts, bumps, bump, tally}
-use Rattle.layout.specs.Places.{counterWord}
-use Rattle.layout.specs.Same.{CellsSame, RingSame}
-use Rattle.layout.proofs.Stores.{cells-then, ring-then}
-use Rattle.settings.specs.CounterLaws.{counter-set, counter-of-port-kept, counter-elsewhere-kept}
-use Rattle.settings.specs.SameLaws.{ring-kept, cells-kept-before}
-use Rattle.standing.proofs.Pushes.{cells-self}
+use Rattle.layout.specs.Places.{fixedWords, counterWord}
+use Rattle.layout.specs.Same.{CellsSame, QueuesSame}
+use Rattle.layout.proofs.Stores.{cells-then, queues-then, cells-self, queues-self, queues-store, counter-elsewhere}
+use Rattle.settings.proofs.CounterLaws.{counter-set, counter-of-port-kept, counter-elsewhere-kept, counter-keeps-settings}
+use Rattle.settings.proofs.SameLaws.{cells-kept-before}
 use Rattle.settings.specs.Counters.{bumped}
 use Rattle.frame_in.specs.Counting.{counted}
 use Rattle.histories.specs.Stands.{CountersStand}
-use Rattle.histories.proofs.Kept.{SettingWords}
+use Rattle.histories.proofs.Kept.{SettingWords, words-self, words-then}
 
 reason-number : (r : Reason) → reasonNumber r ≤ 13
 unfolding reasonNumber
@@ -59,7 +57,7 @@ AtPort e = e .port < 5
 pub length-bumped : (p k : ℕ) (l : List ℕ) → length (bumped p k l) ≡ length l
 length-bumped p k l = length-set l (counterWord p k) _
 
-pub bump-stands : (l : List ℕ) (c : Counts) → 640 ≤ length l → (e : Event) → AtPort e → CountersStand l c
+pub bump-stands : (l : List ℕ) (c : Counts) → fixedWords ≤ length l → (e : Event) → AtPort e → CountersStand l c
     → CountersStand (bumped (e .port) (counterNumber (e .counter)) l) (bump e c)
 unfolding bump bumps
 bump-stands l c enough e at h p k hp hk =
@@ -87,7 +85,7 @@ length-counted [] l = refl
 length-counted (e ∷ es) l =
     length-counted es (bumped (e .port) (counterNumber (e .counter)) l) ∙ length-bumped (e .port) (counterNumber (e .counter)) l
 
-pub counted-stands : (es : List Event) → Each AtPort es → (l : List ℕ) (c : Counts) → 640 ≤ length l → CountersStand l c
+pub counted-stands : (es : List Event) → Each AtPort es → (l : List ℕ) (c : Counts) → fixedWords ≤ length l → CountersStand l c
     → CountersStand (counted es l) (tally es c)
 unfolding counted tally
 counted-stands [] at l c enough h = h
@@ -98,33 +96,31 @@ counted-stands (e ∷ es) (also at more) l c enough h =
 
 -- ---- all else is kept
 
-bumped-words : (p k : ℕ) (l : List ℕ) → SettingWords l (bumped p k l)
-bumped-words p k l = record { word = λ w h f g. getD-set-other l (counterWord p k) w _ 0 (λ e. omega arith) }
-
 bumped-cells : (p k : ℕ) (l : List ℕ) → p < 5 → k ≤ lastCounter → CellsSame l (bumped p k l)
 bumped-cells p k l hp hk = cells-kept-before l (counterWord p k) (_ ∷ []) (omega arith) (omega arith)
 
-bumped-ring : (p k : ℕ) (l : List ℕ) → p < 5 → k ≤ lastCounter → (r : ℕ) → RingSame r l (bumped p k l)
-bumped-ring p k l hp hk r = ring-kept l (counterWord p k) (_ ∷ []) (omega arith) r
+bumped-queues : (p k : ℕ) (l : List ℕ) → p < 5 → k ≤ lastCounter → QueuesSame l (bumped p k l)
+bumped-queues p k l hp hk = queues-store l (counterWord p k) _ (counter-elsewhere p k hp (omega arith))
 
 -- what counting leaves alone
 pub record Uncounted (l m : List ℕ) : Type 0 where
   pub words : SettingWords l m
   pub cells : CellsSame l m
-  pub rings : (r : ℕ) → RingSame r l m
+  pub queues : QueuesSame l m
 
 pub bumped-keeps : (p k : ℕ) (l : List ℕ) → p < 5 → k ≤ lastCounter → Uncounted l (bumped p k l)
-bumped-keeps p k l hp hk = record { words = bumped-words p k l; cells = bumped-cells p k l hp hk; rings = bumped-ring p k l hp hk }
+bumped-keeps p k l hp hk =
+    record { words = counter-keeps-settings l p k _ (omega arith); cells = bumped-cells p k l hp hk; queues = bumped-queues p k l hp hk }
 
 pub counted-keeps : (es : List Event) → Each AtPort es → (l : List ℕ) → Uncounted l (counted es l)
 unfolding counted
 counted-keeps [] at l =
-    record { words = record { word = λ w h f g. refl }; cells = cells-self l; rings = λ r. record { oldest = refl; count = refl; place = λ i. refl } }
+    record { words = words-self l; cells = cells-self l; queues = queues-self l }
 counted-keeps (e ∷ es) (also at more) l =
     let one = bumped-keeps (e .port) (counterNumber (e .counter)) l at (counter-number (e .counter)) in
     let rest = counted-keeps es more (bumped (e .port) (counterNumber (e .counter)) l) in
     record {
-      words = record { word = λ w h f g. rest .words .word w h f g ∙ one .words .word w h f g };
+      words = words-then (one .words) (rest .words);
       cells = cells-then (one .cells) (rest .cells);
-      rings = λ r. ring-then (one .rings r) (rest .rings r);
+      queues = queues-then (one .queues) (rest .queues);
     }

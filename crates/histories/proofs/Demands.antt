@@ -28,21 +28,20 @@ use Rattle.machine.specs.Machine.{linesOf, carryOut, unlessRefused, perform, ne
 use Rattle.machine.specs.History.{fresh, after, events}
 use Rattle.machine.proofs.Demands as Machine
 use Rattle.machine.proofs.Calls.{call-theorems}
-use Rattle.layout.specs.Places.{ringOfQueue}
 use Rattle.lent.specs.declared.Answer as Lent
 use Rattle.lent.specs.Answers.{doneWith}
 use Rattle.cells.specs.Free.{freeCount}
-use Rattle.queues.specs.Rings.{ringOf}
+use Rattle.queues.specs.Lists.{listOf}
 use Rattle.take_out.specs.Frames.{frameAt}
-use Rattle.settings.specs.CounterLaws.{counterAt}
+use Rattle.settings.proofs.CounterLaws.{counterAt}
 use Rattle.addresses.specs.Numbers.{tableOf}
 use Rattle.standing.specs.LinkTraffic.{linksIn, WaitsAs}
 use Rattle.standing.specs.Traffic.{HoldsFrame, Traffic}
-use Rattle.standing.proofs.Reading.{ring-is-queue}
+use Rattle.standing.proofs.Reading.{list-is-queue}
 use Rattle.histories.specs.Memories.{Memories}
 use Rattle.histories.specs.Stands.{Stands}
 use Rattle.histories.specs.Runs.{run}
-use Rattle.histories.specs.Demands.{ringFrames, WaitingFrames, MemoryHolds}
+use Rattle.histories.specs.Demands.{queueFrames, WaitingFrames, MemoryHolds}
 use Rattle.histories.specs.Follows.{Handed, numbersOf, handedBack}
 use Rattle.histories.proofs.FrameInRoom.{free-is}
 use Rattle.histories.proofs.FrameIn.{frame-in-follows}
@@ -50,17 +49,17 @@ use Rattle.histories.proofs.Take.{take-follows}
 use Rattle.histories.proofs.AddressCalls.{age-follows}
 use Rattle.histories.proofs.SettingCalls.{counter-follows}
 
--- ---- a ring's frames are its queue's
+-- ---- a list's frames are its queue's
 
-module _ (cells links : List ℕ) (held : ℕ → Waiting) (p q : ℕ) where
-  frame-here : (c : ℕ) → HoldsFrame cells links c (held c) → waitsAt p q (held c) ≡ true → frameAt cells links c q ≡ held c .frame
+module _ (n : ℕ) (cells links : List ℕ) (held : ℕ → Waiting) (p q : ℕ) where
+  frame-here : (c : ℕ) → HoldsFrame n cells links c (held c) → waitsAt p q (held c) ≡ true → frameAt n cells links c q ≡ held c .frame
   unfolding waitsAt
   frame-here c h e =
       let same : q ≡ held c .frame .queue = eqb-true q (held c .frame .queue) (and-right (among p (held c .ports)) (eqb q (held c .frame .queue)) e) in
-      ap (frameAt cells links c) same ∙ h .frame
+      ap (frameAt n cells links c) same ∙ h .frame
 
-  frames-here : (ids : List ℕ) → Each (λ (c : ℕ). HoldsFrame cells links c (held c)) ids
-      → map (λ (c : ℕ). frameAt cells links c q) (sift (λ c. waitsAt p q (held c)) ids) ≡ map (λ (c : ℕ). held c .frame) (sift (λ c. waitsAt p q (held c)) ids)
+  frames-here : (ids : List ℕ) → Each (λ (c : ℕ). HoldsFrame n cells links c (held c)) ids
+      → map (λ (c : ℕ). frameAt n cells links c q) (sift (λ c. waitsAt p q (held c)) ids) ≡ map (λ (c : ℕ). held c .frame) (sift (λ c. waitsAt p q (held c)) ids)
   unfolding sift
   frames-here [] h = refl
   frames-here (c ∷ ids) (also h t) =
@@ -68,16 +67,16 @@ module _ (cells links : List ℕ) (held : ℕ → Waiting) (p q : ℕ) where
       (λ e. rw e (ap₂ (_∷_) (frame-here c h e) (frames-here ids t)))
       (λ e. rw e (frames-here ids t))
 
-pub ring-frames : (n : ℕ) (m : Memories) (ws : List Waiting) → Traffic n (m .cells) (m .links) ws → (p q : ℕ) → p < 5 → q < 4
-    → ringFrames n m p q ≡ queueAt p q ws
+pub queue-frames : (n : ℕ) (m : Memories) (ws : List Waiting) → Traffic n (m .cells) (m .links) ws → (p q : ℕ) → p < 5 → q < 4
+    → queueFrames n m p q ≡ queueAt p q ws
 unfolding linksIn
-ring-frames n m ws T p q hp hq =
+queue-frames n m ws T p q hp hq =
     let L = T .links-stand in
-    let ring : ringOf n (m .links) (ringOfQueue p q) ≡ sift (λ c. waitsAt p q (L .held c)) (L .stands .ids) = L .stands .rings p q hp hq in
-    ap (map (λ (c : ℕ). frameAt (m .cells) (m .links) c q)) ring
-    ∙ frames-here (m .cells) (m .links) (L .held) p q (L .stands .ids) (T .frames)
-    ∙ ap (map (λ (c : ℕ). L .held c .frame)) (sym ring)
-    ∙ ring-is-queue n (linksIn n (m .links) (L .held)) ws (L .stands) p q hp hq
+    let list : listOf n (m .links) p q ≡ sift (λ c. waitsAt p q (L .held c)) (L .stands .ids) = L .stands .lists p q hp hq in
+    ap (map (λ (c : ℕ). frameAt n (m .cells) (m .links) c q)) list
+    ∙ frames-here n (m .cells) (m .links) (L .held) p q (L .stands .ids) (T .frames)
+    ∙ ap (map (λ (c : ℕ). L .held c .frame)) (sym list)
+    ∙ list-is-queue n (linksIn n (m .links) (L .held)) ws (L .stands) p q hp hq
 
 -- ---- no room
 
@@ -132,10 +131,10 @@ module _ (n : ℕ) (m : Memories) (cs : List Call) (S : Stands m (after (fresh n
   traffic : Traffic n (m .cells) (m .links) (s .core .waiting)
   traffic = rw same at (S .traffic)
 
-  rings : (p q : ℕ) → p < 5 → q < 4 → putIn p q (events (fresh n) cs) ≡ takenOut p q (events (fresh n) cs) ++ ringFrames n m p q
-  rings p q hp hq =
+  in-queues : (p q : ℕ) → p < 5 → q < 4 → putIn p q (events (fresh n) cs) ≡ takenOut p q (events (fresh n) cs) ++ queueFrames n m p q
+  in-queues p q hp hq =
       Machine.holds n cs .queues p q
-      ∙ ap (takenOut p q (events (fresh n) cs) ++_) (sym (ring-frames n m (s .core .waiting) traffic p q hp hq))
+      ∙ ap (takenOut p q (events (fresh n) cs) ++_) (sym (queue-frames n m (s .core .waiting) traffic p q hp hq))
 
   free : freeCount (m .links) ≡ n - cellsInUse (s .core .waiting)
   unfolding freeCells
@@ -162,7 +161,7 @@ module _ (n : ℕ) (m : Memories) (cs : List Call) (S : Stands m (after (fresh n
         held = L .held;
         are = L .stands .holds;
         stored = each-map (λ c h. h .frame) (traffic .frames);
-        in-rings = L .stands .rings;
+        in-queues = L .stands .lists;
         in-a-queue = each-map (λ c h. in-a-queue c (L .held c) h) (L .waits);
         ports-said = each-map (λ c h. h .said) (L .waits);
         one-chain = each-map (λ c h. h .sized) (L .stands .rows);
@@ -214,10 +213,10 @@ module _ (n : ℕ) (m : Memories) (cs : List Call) (S : Stands m (after (fresh n
   memory-holds =
       record {
         waiting = waiting-frames;
-        rings = rings;
+        queues = in-queues;
         came = λ p q hp hq.
-            each-back (takenOut p q (events (fresh n) cs)) (ringFrames n m p q)
-            (subst (Each (Came (fresh n) cs p)) (rings p q hp hq) (Machine.holds n cs .came p q));
+            each-back (takenOut p q (events (fresh n) cs)) (queueFrames n m p q)
+            (subst (Each (Came (fresh n) cs p)) (in-queues p q hp hq) (Machine.holds n cs .came p q));
         left = left;
         free = free;
         room = λ c buffer hp each past r hr passes.

@@ -10,14 +10,14 @@ use Rattle.rules.proofs.Choice.{on}
 use Rattle.machine.specs.Waiting.{send}
 use Rattle.machine.specs.Events.{Event, bump, tally}
 use Rattle.machine.specs.State.{State, setWaiting}
-use Rattle.layout.specs.Places.{ringOfQueue}
+use Rattle.layout.specs.Places.{fixedWords}
 use Rattle.layout.specs.Same.{SettingsSame}
-use Rattle.layout.proofs.Stores.{settings-then}
+use Rattle.layout.proofs.Stores.{settings-then, others-settings}
 use Rattle.lent.specs.Lengths.{cellCount}
 use Rattle.cells.proofs.Apart.{given-settings, ports-settings}
-use Rattle.queues.specs.Rings.{ringOf, popped}
-use Rattle.queues.proofs.Apart.{popped-settings}
-use Rattle.queues.proofs.Entries.{length-popped}
+use Rattle.queues.specs.Lists.{listOf, poppedAt}
+use Rattle.queues.proofs.Apart.{popped-at-others}
+use Rattle.queues.proofs.Outcomes.{length-popped-at}
 use Rattle.frame_in.specs.Counting.{counted}
 use Rattle.take_out.specs.Leaving.{isLast, departed, left}
 use Rattle.standing.specs.Traffic.{Traffic}
@@ -28,43 +28,43 @@ use Rattle.histories.specs.Stands.{CountersStand, Stands}
 use Rattle.histories.proofs.Kept.{fit-same, cells-fit-same, traffic-same, same-words, cell-count-same, settings-same, counters-same}
 use Rattle.histories.proofs.Counting.{AtPort, Uncounted, length-counted, counted-stands, counted-keeps}
 
-departed-settings : (p i : ℕ) (links : List ℕ) → SettingsSame links (departed p i links)
+departed-settings : (n p i : ℕ) (links : List ℕ) → SettingsSame links (departed n p i links)
 unfolding departed
-departed-settings p i links =
+departed-settings n p i links =
     on (isLast p i links)
-    (λ e. rw e (given-settings i links))
+    (λ e. rw e (given-settings n i links))
     (λ e. rw e (ports-settings i links _))
 
 -- the oldest copy of queue (p, q), whose first cell is i, is gone, and the event is counted
 abbrev pub memoriesAfter : Memories → ℕ → ℕ → ℕ → ℕ → Event → Memories
 memoriesAfter m n p q i e =
-    record { cells = m .cells; links = left n p q (e .counter) (departed p i (m .links)); addresses = m .addresses }
+    record { cells = m .cells; links = left p q i (e .counter) (departed n p i (m .links)); addresses = m .addresses }
 
 abbrev pub stateAfter : State → ℕ → ℕ → Event → State
 stateAfter s p q e =
     record { cellCount = s .cellCount; counters = bump e (s .counters); core = setWaiting (send p q (s .core .waiting)) (s .core) }
 
 module _ (m : Memories) (s : State) (S : Stands m s) (p q i : ℕ) (hp : p < 5) (hq : q < 4)
-    (tail : List ℕ) (head : ringOf (s .cellCount) (m .links) (ringOfQueue p q) ≡ i ∷ tail) where
+    (tail : List ℕ) (head : listOf (s .cellCount) (m .links) p q ≡ i ∷ tail) where
   abbrev n : ℕ
   n = s .cellCount
 
   -- before the count goes up
   abbrev gone : List ℕ
-  gone = popped n (ringOfQueue p q) (departed p i (m .links))
+  gone = poppedAt p q i (departed n p i (m .links))
 
   gone-length : length gone ≡ length (m .links)
   gone-length =
-      length-popped n (ringOfQueue p q) (departed p i (m .links))
+      length-popped-at n p q (departed n p i (m .links)) i
       ∙ D-length n (m .links) (s .core .waiting) (S .traffic .links-stand) p q i hp hq tail head
 
   gone-settings : SettingsSame (m .links) gone
-  gone-settings = settings-then (departed-settings p i (m .links)) (popped-settings n (ringOfQueue p q) (departed p i (m .links)))
+  gone-settings = settings-then (departed-settings n p i (m .links)) (others-settings (popped-at-others n p q (departed n p i (m .links)) hp hq i))
 
   gone-traffic : Traffic n (m .cells) gone (send p q (s .core .waiting))
   gone-traffic = departure-keeps n (m .cells) (m .links) (s .core .waiting) (S .traffic) p q i hp hq tail head
 
-  enough : 640 ≤ length gone
+  enough : fixedWords ≤ length gone
   enough = omega (arith, gone-traffic .links-stand .long)
 
   module _ (e : Event) (here : e .port ≡ p) where
@@ -74,7 +74,7 @@ module _ (m : Memories) (s : State) (S : Stands m s) (p q i : ℕ) (hp : p < 5) 
     abbrev after : List ℕ
     after = counted (e ∷ []) gone
 
-    counted-left : left n p q (e .counter) (departed p i (m .links)) ≡ after
+    counted-left : left p q i (e .counter) (departed n p i (m .links)) ≡ after
     unfolding left counted
     counted-left = rw here
 
@@ -101,5 +101,5 @@ module _ (m : Memories) (s : State) (S : Stands m s) (p q i : ℕ) (hp : p < 5) 
           settings = settings-same (kept .words) (s .core .settings) (settings-same (same-words gone-settings) (s .core .settings) (S .settings));
           addresses = S .addresses;
           counters = counters;
-          traffic = traffic-same gone after (length-counted (e ∷ []) gone) n (m .cells) (send p q (s .core .waiting)) (kept .cells) (λ r hr. kept .rings r) gone-traffic;
+          traffic = traffic-same gone after (length-counted (e ∷ []) gone) n (m .cells) (send p q (s .core .waiting)) (kept .cells) (kept .queues) gone-traffic;
         })

@@ -6,26 +6,28 @@ use mathlib.Core.List.{List}
 use mathlib.Core.Option.{none}
 use native.Mathlib.Omega.{arith}
 use lib.Dec.{ltb}
+use lib.ListN.{length}
 use borrow.Author.Tests.{ltb-false}
 use Rattle.rules.specs.Lines.{first}
 use Rattle.rules.specs.Refusals.{drainLines}
 use Rattle.rules.proofs.Choice.{on, each-first}
 use Rattle.rules.proofs.Lines.{holds-none}
+use Rattle.machine.specs.Waiting.{portAt}
 use Rattle.machine.specs.State.{State, drain}
 use Rattle.machine.specs.TakeOut.{drainStep}
 use Rattle.machine.specs.Machine.{linesOf, carryOut, next}
 use Rattle.lent.specs.Lengths.{cellCount}
 use Rattle.lent.specs.Answers.{doneWith}
-use Rattle.take_out.specs.Drain.{canDrainAll, drainAll, copies, drainRefusals, drainCall}
+use Rattle.take_out.specs.Drain.{canDrainAll, drainQueue, drainAll, copies, drainRefusals, drainCall}
 use Rattle.histories.specs.Memories.{Memories}
 use Rattle.histories.specs.Stands.{Stands}
 use Rattle.histories.specs.Runs.{onLinks, run}
 use Rattle.histories.specs.Follows.{numbersOf, handedBack, Follows, CallFollows}
 use Rattle.histories.proofs.Answers.{lines-between, follows-by}
 use Rattle.histories.proofs.Drainable.{can-drain-all}
-use Rattle.histories.proofs.PortQueues.{all-in-queues, all-somewhere, copies-are}
-use Rattle.histories.proofs.Draining.{withLinks, queue-stands}
-use Rattle.histories.proofs.Emptied.{emptied, allEmptied, emptied-waiting, emptied-counters}
+use Rattle.histories.proofs.PortQueues.{all-in-queues, all-somewhere}
+use Rattle.histories.proofs.Draining.{withLinks, queue-stands, queue-copies}
+use Rattle.histories.proofs.Emptied.{emptied, allEmptied, emptied-copies, emptied-waiting, emptied-counters}
 
 module _ (p : ℕ) (m : Memories) (s : State) (S : Stands m s) where
   undamaged : p < 5 → not (canDrainAll (cellCount (m .links)) p (m .links)) ≡ false
@@ -44,13 +46,32 @@ module _ (p : ℕ) (m : Memories) (s : State) (S : Stands m s) where
   port-there e = omega (arith, ltb-false 4 p (each-first (holds-none _ e)))
 
   module _ (hp : p < 5) where
+    -- queue 3 is empty, then 2, then 1
+    three-gone : Stands (withLinks m (drainQueue (s .cellCount) p 3 (m .links))) (emptied p 3 s)
+    three-gone = queue-stands p 3 hp (omega arith) m s S
+
+    two-gone : Stands (withLinks m (drainQueue (s .cellCount) p 2 (drainQueue (s .cellCount) p 3 (m .links)))) (emptied p 2 (emptied p 3 s))
+    two-gone = queue-stands p 2 hp (omega arith) _ (emptied p 3 s) three-gone
+
+    one-gone : Stands (withLinks m (drainQueue (s .cellCount) p 1 (drainQueue (s .cellCount) p 2 (drainQueue (s .cellCount) p 3 (m .links)))))
+        (emptied p 1 (emptied p 2 (emptied p 3 s)))
+    one-gone = queue-stands p 1 hp (omega arith) _ (emptied p 2 (emptied p 3 s)) two-gone
+
     all-stands : Stands (withLinks m (drainAll (s .cellCount) p (m .links))) (allEmptied p s)
     unfolding drainAll
-    all-stands =
-        let three = queue-stands p 3 hp (omega arith) m s S in
-        let two = queue-stands p 2 hp (omega arith) _ (emptied p 3 s) three in
-        let one = queue-stands p 1 hp (omega arith) _ (emptied p 2 (emptied p 3 s)) two in
-        queue-stands p 0 hp (omega arith) _ (emptied p 1 (emptied p 2 (emptied p 3 s))) one
+    all-stands = queue-stands p 0 hp (omega arith) _ (emptied p 1 (emptied p 2 (emptied p 3 s))) one-gone
+
+    copies-are : copies (s .cellCount) p (m .links) ≡ length (portAt p (s .core .waiting))
+    unfolding copies
+    copies-are =
+        omega (
+          arith,
+          queue-copies p 3 hp (omega arith) m s S,
+          queue-copies p 2 hp (omega arith) _ (emptied p 3 s) three-gone,
+          queue-copies p 1 hp (omega arith) _ (emptied p 2 (emptied p 3 s)) two-gone,
+          queue-copies p 0 hp (omega arith) _ (emptied p 1 (emptied p 2 (emptied p 3 s))) one-gone,
+          emptied-copies p s (all-in-queues (s .cellCount) (m .links) (s .core .waiting) (S .traffic .links-stand)),
+        )
 
     drained-stands : Stands (withLinks m (drainAll (s .cellCount) p (m .links))) (next s (drainStep s p))
     unfolding next drainStep
@@ -65,11 +86,11 @@ module _ (p : ℕ) (m : Memories) (s : State) (S : Stands m s) where
         all-stands
 
     drains : (buffer : List ℕ)
-        → Follows (onLinks m buffer (doneWith (copies p (m .links)) 0, drainAll (cellCount (m .links)) p (m .links))) buffer s (carryOut s (drain p))
+        → Follows (onLinks m buffer (doneWith (copies (cellCount (m .links)) p (m .links)) 0, drainAll (cellCount (m .links)) p (m .links))) buffer s (carryOut s (drain p))
     unfolding carryOut numbersOf handedBack drainStep
     drains buffer =
         record {
-          same-answer = ap (λ (k : ℕ). doneWith k 0) (copies-are (s .cellCount) (m .links) (s .core .waiting) (S .traffic .links-stand) p hp);
+          same-answer = rw (S .cell-count) (ap (λ (k : ℕ). doneWith k 0) copies-are);
           same-bytes = refl;
           stands-kept = rw (S .cell-count) drained-stands;
         }
@@ -78,7 +99,7 @@ pub drain-follows : (p : ℕ) → CallFollows (drain p)
 unfolding run drainCall linesOf
 drain-follows p m s S buffer handed =
     follows-by m s S (drain p) buffer (m .links)
-    (doneWith (copies p (m .links)) 0, drainAll (cellCount (m .links)) p (m .links))
+    (doneWith (copies (cellCount (m .links)) p (m .links)) 0, drainAll (cellCount (m .links)) p (m .links))
     (onLinks m buffer)
     (λ r. refl)
     (first (drainRefusals (m .links) p))

@@ -73,6 +73,18 @@ module _ (p : ℕ) where
         ∙ emptied-drain 2 s₃
         ∙ emptied-drain 3 s
 
+    -- each copy that waited at the port left one of the four
+    pub emptied-copies : Each InQueue (s .core .waiting)
+        → waitingAt 3 s + waitingAt 2 s₃ + waitingAt 1 s₂ + waitingAt 0 s₁ ≡ length (portAt p (s .core .waiting))
+    emptied-copies low =
+        omega (
+          arith,
+          port-count p (s .core .waiting) low,
+          emptied-other 3 2 s refl,
+          emptied-other 2 1 s₃ refl ∙ emptied-other 3 1 s refl,
+          emptied-other 1 0 s₂ refl ∙ emptied-other 2 0 s₃ refl ∙ emptied-other 3 0 s refl,
+        )
+
     pub emptied-counters : Each InQueue (s .core .waiting)
         → allEmptied .counters ≡ tally (map (λ f. drains p f) (portAt p (s .core .waiting))) (s .counters)
     emptied-counters low =
@@ -80,16 +92,8 @@ module _ (p : ℕ) where
         let k₂ : ℕ = waitingAt 2 s₃ in
         let k₁ : ℕ = waitingAt 1 s₂ in
         let k₀ : ℕ = waitingAt 0 s₁ in
-        let all : k₃ + k₂ + k₁ + k₀ ≡ length (portAt p (s .core .waiting)) =
-        omega (
-          arith,
-          port-count p (s .core .waiting) low,
-          emptied-other 3 2 s refl,
-          emptied-other 2 1 s₃ refl ∙ emptied-other 3 1 s refl,
-          emptied-other 1 0 s₂ refl ∙ emptied-other 2 0 s₃ refl ∙ emptied-other 3 0 s refl,
-        ) in
         ap (λ (c : Counts). drainsCounted k₀ p (drainsCounted k₁ p c)) (counted-then k₂ k₃ p (s .counters))
         ∙ ap (drainsCounted k₀ p) (counted-then k₁ (k₃ + k₂) p (s .counters))
         ∙ counted-then k₀ (k₃ + k₂ + k₁) p (s .counters)
-        ∙ ap (λ (k : ℕ). drainsCounted k p (s .counters)) all
+        ∙ ap (λ (k : ℕ). drainsCounted k p (s .counters)) (emptied-copies low)
         ∙ sym (tally-drained p (portAt p (s .core .waiting)) (s .counters))

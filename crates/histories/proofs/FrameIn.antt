@@ -23,13 +23,14 @@ use Rattle.machine.specs.FrameIn.{factsAt, frameInEvents, outcomeAnswer, outcom
 use Rattle.machine.specs.FrameIn as Machine
 use Rattle.machine.specs.Machine.{linesOf, carryOut, next}
 use Rattle.lent.specs.Lengths.{cellCount, linksFit, cellsFit, addressesFit}
-use Rattle.lent.specs.Fits.{links-fit}
+use Rattle.lent.proofs.Fits.{links-fit}
 use Rattle.lent.specs.Answers.{lengthLine, damageLine}
 use Rattle.layout.specs.Same.{SettingsSame}
 use Rattle.addresses.specs.Numbers.{tableOf}
 use Rattle.standing.specs.Traffic.{Traffic}
 use Rattle.frame_in.specs.Met.{met}
 use Rattle.frame_in.specs.Counting.{counted}
+use Rattle.frame_in.specs.Stored.{operationFor}
 use Rattle.frame_in.specs.Call.{factsIn, storedFor, joinedFor, answerFor, entered, frameInCall}
 use Rattle.frame_in.proofs.Theorems.{frame-in-theorems}
 use Rattle.histories.specs.Memories.{Memories}
@@ -37,7 +38,7 @@ use Rattle.histories.specs.Stands.{CountersStand, Stands}
 use Rattle.histories.specs.Runs.{run, onAll}
 use Rattle.histories.specs.Follows.{numbersOf, handedBack, Follows, Handed, CallFollows}
 use Rattle.histories.proofs.Answers.{lines-between, follows-by}
-use Rattle.histories.proofs.Kept.{SettingWords, fit-same, traffic-same, cell-count-same, settings-same, same-words, counters-same}
+use Rattle.histories.proofs.Kept.{SettingWords, words-then, fit-same, traffic-same, cell-count-same, settings-same, same-words, counters-same}
 use Rattle.histories.proofs.Counting.{AtPort, counted-stands, counted-keeps, length-counted}
 use Rattle.histories.proofs.FrameInRoom.{free-is, meets-in-range}
 use Rattle.histories.proofs.FrameInPorts.{events-at}
@@ -92,7 +93,10 @@ module _ (m : Memories) (s : State) (S : Stands m s) (c : FrameInRequest) (each 
   port-is = refl
 
   module _ (there : c .port ≤ 4) where
-    carries : Carries (m .links) outcome
+    abbrev word : ℕ
+    word = operationFor (m .links) (facts .vid)
+
+    carries : Carries (m .links) word outcome
     carries = outcome-carries (m .links) (m .addresses) (meets-in-range m s S) (c .port) there (c .packet .bytes) each
 
     -- ---- link memory: the frame joined, then the events counted
@@ -104,27 +108,27 @@ module _ (m : Memories) (s : State) (S : Stands m s) (c : FrameInRequest) (each 
     after = counted happened joined
 
     at-ports : Each AtPort happened
-    at-ports = events-at facts (rw port-is there) unlearned (carries-inside (m .links) outcome carries)
+    at-ports = events-at facts (rw port-is there) unlearned (carries-inside (m .links) word outcome carries)
 
     joined-apart : SettingsSame (m .links) joined
-    joined-apart = joined-settings (cellCount (m .links)) (m .links) outcome carries
+    joined-apart = joined-settings (cellCount (m .links)) (m .links) word outcome carries
 
     joined-long : length joined ≡ length (m .links)
-    joined-long = joined-length (cellCount (m .links)) (m .links) outcome carries
+    joined-long = joined-length (cellCount (m .links)) (m .links) word outcome carries
 
     words : SettingWords (m .links) after
     words =
-        record { word = λ w h f g. counted-keeps happened at-ports joined .words .word w h f g ∙ same-words joined-apart .word w h f g }
+        words-then (same-words joined-apart) (counted-keeps happened at-ports joined .words)
 
     long : length after ≡ length (m .links)
     long = length-counted happened joined ∙ joined-long
 
-    traffic-after : Traffic (s .cellCount) (storedFor outcome (m .links) (m .cells)) after (outcomeWaiting outcome (s .core .waiting))
+    traffic-after : Traffic (s .cellCount) (storedFor (cellCount (m .links)) word outcome (m .links) (m .cells)) after (outcomeWaiting outcome (s .core .waiting))
     traffic-after =
         let keeps = counted-keeps happened at-ports joined in
-        traffic-same joined after (length-counted happened joined) (s .cellCount) (storedFor outcome (m .links) (m .cells)) (outcomeWaiting outcome (s .core .waiting))
-        (keeps .cells) (λ r h. keeps .rings r)
-        (rw (S .cell-count) (joined-traffic (s .cellCount) (m .links) (m .cells) (s .core .waiting) (S .traffic) outcome carries))
+        traffic-same joined after (length-counted happened joined) (s .cellCount) (storedFor (cellCount (m .links)) word outcome (m .links) (m .cells)) (outcomeWaiting outcome (s .core .waiting))
+        (keeps .cells) (keeps .queues)
+        (rw (S .cell-count) (joined-traffic (s .cellCount) (m .links) word (m .cells) (s .core .waiting) (S .traffic) outcome carries))
 
     counters-after : CountersStand after (tally happened (s .counters))
     counters-after =
@@ -132,9 +136,9 @@ module _ (m : Memories) (s : State) (S : Stands m s) (c : FrameInRequest) (each 
         counted-stands happened at-ports joined (s .counters) (omega (arith, joined-long, fits .long, fits .fewest))
         (counters-same joined-apart (s .counters) (S .counters))
 
-    cells-fit-after : cellsFit (storedFor outcome (m .links) (m .cells)) after ≡ true
+    cells-fit-after : cellsFit (storedFor (cellCount (m .links)) word outcome (m .links) (m .cells)) after ≡ true
     unfolding cellsFit
-    cells-fit-after = rw (cell-count-same words, stored-length (m .cells) (m .links) outcome) (S .cells-fit)
+    cells-fit-after = rw (cell-count-same words, stored-length (cellCount (m .links)) word (m .cells) (m .links) outcome) (S .cells-fit)
 
     -- ---- the call
 

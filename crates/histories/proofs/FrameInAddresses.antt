@@ -11,7 +11,7 @@ use Rattle.rules.specs.Facts.{factsOf}
 use Rattle.rules.specs.Outcomes.{learns, tableAfter}
 use Rattle.rules.proofs.Choice.{on}
 use Rattle.lent.specs.Lengths.{addressesFit}
-use Rattle.lent.specs.Fits.{addresses-fit}
+use Rattle.lent.proofs.Fits.{addresses-fit}
 use Rattle.addresses.specs.Numbers.{tableOf, allInRange}
 use Rattle.addresses.specs.Search.{lookUp}
 use Rattle.addresses.specs.Writes.{markedBy}

@@ -1,36 +1,40 @@
 -- The frame that a frame-in queues is one that memory can hold. Assumes nothing.
 use Prim.Native.Nat.{ℕ, _≤_, _<_}
-use mathlib.Core.Path.{_≡_, refl}
-use mathlib.Core.Bool.{false}
+use mathlib.Core.Path.{_≡_, refl, ap, _∙_}
+use mathlib.Core.Bool.{true, false}
 use mathlib.Core.List.{List}
 use mathlib.Core.Option.{none}
 use native.Mathlib.Omega.{arith}
-use lib.ListN.{length}
+use lib.ListN.{length, getD}
 use borrow.Author.Tests.{ltb-false}
 use Rattle.rules.specs.Choice.{sift, isNone}
 use Rattle.rules.specs.Cells.{shortest, longest}
 use Rattle.rules.specs.Tags.{Bytes, Header, HeaderInRange}
-use Rattle.rules.specs.Settings.{Settings}
-use Rattle.rules.specs.Arguments.{portOf}
+use Rattle.rules.specs.Settings.{Vlan, Settings, noOperation}
+use Rattle.rules.specs.Arguments.{operationOf, portOf}
 use Rattle.rules.specs.PortTests.{portsLeft}
-use Rattle.rules.specs.Facts.{Facts, isBpdu, factsOf}
+use Rattle.rules.specs.Facts.{Facts, factsOf}
 use Rattle.rules.specs.ReasonTable.{isAsked, reasonTable, linesIn, reasonFor}
 use Rattle.rules.specs.Outcomes.{Frame, frameOf}
 use Rattle.rules.proofs.Choice.{on, each-first, each-rest}
 use Rattle.rules.proofs.Lines.{holds-none}
-use Rattle.settings.specs.Records.{portAt}
-use Rattle.settings.specs.RangeLaws.{port-range, port-header}
+use Rattle.layout.specs.Places.{portWord}
+use Rattle.packed.specs.Operations.{operationIn}
+use Rattle.packed.specs.Ports.{portIn}
+use Rattle.packed.proofs.PortLaws.{vid-word}
 use Rattle.settings.specs.SettingsOf.{settingsOf}
 use Rattle.standing.specs.Traffic.{Storable}
 use Rattle.frame_in.specs.InRange.{InRange}
+use Rattle.frame_in.specs.Stored.{operationFor}
 use Rattle.frame_in.specs.Call.{factsIn}
+use Rattle.frame_in.proofs.Facts.{facts-vlan}
 use Rattle.frame_in.proofs.TestNumbers.{port-is}
 use Rattle.frame_in.proofs.Undamaged.{queue-small}
-use Rattle.histories.proofs.FrameInVlans.{OperationFits, none-fits, vlan-fits}
+use Rattle.histories.proofs.FrameInVlans.{word-says}
 
--- memory can hold the frame, and its queue is one of the four
-pub record Fitted (f : Frame) : Type 0 where
-  pub storable : Storable f
+-- memory can hold the frame with this word for its VLAN's operation, and its queue is one of the four
+pub record Fitted (operation : ℕ) (f : Frame) : Type 0 where
+  pub storable : Storable operation f
   pub low : f .queue < 4
 
 -- ---- no reason holds: not 1 and 2, and not 12 and 13
@@ -81,17 +85,30 @@ module _ (links addresses : List ℕ) (good : InRange links addresses) (p : ℕ)
     most : h .vid ≤ 4094
 
   default-fits : DefaultFits (s .port p .default)
-  unfolding portOf
+  unfolding portOf portIn
   default-fits =
-      let r = port-range (portAt links p) (good .ports p (omega arith)) in
-      rw (port-is links p (omega arith)) (record { in-range = port-header (portAt links p) r; least = r .vid .least; most = r .vid .most })
+      let v = vid-word (getD links (portWord p) 0) (good .ports p (omega arith)) in
+      rw (port-is links p (omega arith))
+      (record {
+        in-range = record { pcp = omega arith; dei = omega arith; vid = omega (arith, v .most) };
+        least = omega (arith, v .least);
+        most = omega (arith, v .most);
+      })
+
+  abbrev word : ℕ
+  word = operationFor links (facts .vid)
 
   -- a BPDU has no operation, another frame that of its VLAN
-  operation-fits : OperationFits (frameOf facts .vlanOperation)
-  unfolding factsIn factsOf frameOf
-  operation-fits = on (isBpdu s p bytes) (λ b. rw b none-fits) (λ b. rw b (vlan-fits links addresses good _ .operation))
+  bpdu-operation : frameOf facts .exempt ≡ true → frameOf facts .vlanOperation ≡ noOperation
+  unfolding frameOf
+  bpdu-operation e = rw e
 
-  pub queued-fitted : reasonFor facts ≡ none → Fitted (frameOf facts)
+  vlan-operation : frameOf facts .exempt ≡ false → frameOf facts .vlanOperation ≡ operationOf (operationIn word)
+  unfolding frameOf
+  vlan-operation e =
+      rw e (ap (λ (v : Vlan). v .operation) (facts-vlan links addresses bytes p) ∙ word-says links addresses good (facts .vid) .says)
+
+  pub queued-fitted : reasonFor facts ≡ none → Fitted word (frameOf facts)
   unfolding factsIn factsOf frameOf
   queued-fitted e =
       let kept = not-dropped facts e in
@@ -103,9 +120,9 @@ module _ (links addresses : List ℕ) (good : InRange links addresses) (p : ℕ)
           default = default-fits .in-range;
           default-least = default-fits .least;
           default-most = default-fits .most;
-          type = operation-fits .type;
-          header = operation-fits .header;
-          header-most = operation-fits .header-most;
+          in-range = word-says links addresses good (facts .vid) .in-range;
+          exempt = bpdu-operation;
+          operated = vlan-operation;
         };
         low = omega (arith, queue-small links addresses good bytes each p there);
       }

@@ -1,6 +1,6 @@
 -- After a fresh call that is not refused the memories stand for the fresh state, whatever they held before. Assumes nothing.
-use Prim.Native.Nat.{ℕ, _+_, _*_, _≤_, _<_}
-use mathlib.Core.Path.{_≡_, refl, _∙_}
+use Prim.Native.Nat.{ℕ, _+_, _*_, _%_, _≤_, _<_}
+use mathlib.Core.Path.{_≡_, refl, ap, _∙_}
 use mathlib.Core.Bool.{Bool, true, _&&_}
 use mathlib.Core.List.{List, []}
 use native.Mathlib.Omega.{arith}
@@ -14,33 +14,33 @@ use Rattle.rules.specs.Numbers.{placeCount}
 use Rattle.rules.proofs.Choice.{and-left, and-right}
 use Rattle.machine.specs.History.{freshSettings, fresh}
 use Rattle.machine.specs.Demands.{vids}
-use Rattle.layout.specs.Places.{cellBytes, linkWords, nextWord, portsWord, counterWord, oldestWord, countWord}
+use Rattle.layout.specs.Places.{cellBytes, linkWords, vlanWord, nextWord, frameWord, counterWord, waitingWord}
 use Rattle.lent.specs.Lengths.{isCellCount, linksFit, cellsFit, addressesFit}
 use Rattle.lent.specs.Answers.{doneWith}
-use Rattle.cells.specs.Chains.{next}
+use Rattle.cells.specs.Chains.{nextIn}
 use Rattle.cells.specs.Free.{portsOf}
 use Rattle.cells.specs.Sound.{FreshCells}
-use Rattle.queues.specs.Rings.{oldestPlace, countOf}
+use Rattle.queues.specs.Lists.{waitingOf}
 use Rattle.addresses.proofs.Ranges.{number-theorems}
 use Rattle.fresh_call.specs.Words.{copies, freshNext, freshCell, freshLinks}
 use Rattle.fresh_call.specs.Calls.{cellsLent, lengthsFit, freshRefusals, freshCall}
 use Rattle.fresh_call.proofs.Runs.{fresh-length}
-use Rattle.fresh_call.proofs.WordLaws.{fresh-cell}
+use Rattle.fresh_call.proofs.WordLaws.{fresh-cell, fresh-counter, fresh-rest}
 use Rattle.standing.proofs.Fresh.{fresh-stands}
 use Rattle.histories.specs.Stands.{CountersStand, Stands}
 use Rattle.histories.specs.Runs.{onAll}
-use Rattle.histories.proofs.FreshWords.{fresh-count, fresh-free, fresh-first, fresh-zero, fresh-says, fresh-in-range}
+use Rattle.histories.proofs.FreshWords.{fresh-count, fresh-free, fresh-first, fresh-says, fresh-in-range}
 
--- ---- cells, rings and counters
+-- ---- cells, queues and counters
 
 module _ (n : ℕ) where
-  next-word : (c : ℕ) → c < n → next (freshLinks n) c ≡ freshNext n c
+  next-word : (c : ℕ) → c < n → nextIn (freshLinks n) c ≡ freshNext n c
   unfolding freshCell
   next-word c h = let at : nextWord c ≡ nextWord c + 0 = omega arith in rw at (fresh-cell n c 0 h (omega arith))
 
   ports-word : (c : ℕ) → c < n → portsOf (freshLinks n) c ≡ 0
   unfolding freshCell copies
-  ports-word c h = let at : portsWord c ≡ nextWord c + 2 = omega arith in rw at (fresh-cell n c 2 h (omega arith))
+  ports-word c h = let at : frameWord c ≡ nextWord c + 1 = omega arith in rw at (ap (_% 32) (fresh-cell n c 1 h (omega arith)))
 
   all-free : FreshCells n (freshLinks n)
   unfolding freshNext
@@ -53,15 +53,11 @@ module _ (n : ℕ) where
         ports = ports-word;
       }
 
-  oldest-zero : (r : ℕ) → r < 20 → oldestPlace (freshLinks n) r ≡ 0
-  oldest-zero r h = let at : oldestWord r ≡ 154 + (406 + 2 * r) = omega arith in rw at (fresh-zero n (406 + 2 * r) (omega arith))
-
-  count-zero : (r : ℕ) → r < 20 → countOf (freshLinks n) r ≡ 0
-  count-zero r h = let at : countWord r ≡ 154 + (407 + 2 * r) = omega arith in rw at (fresh-zero n (407 + 2 * r) (omega arith))
+  waiting-zero : (p : ℕ) → p < 5 → waitingOf (freshLinks n) p ≡ 0
+  waiting-zero p h = let at : waitingWord p ≡ counterWord p (34 + 0) = omega arith in rw at (fresh-rest n p 0 h (omega arith))
 
   counters-zero : CountersStand (freshLinks n) (λ p k. 0)
-  counters-zero p k hp hk =
-      let at : counterWord p k ≡ 154 + (246 + 32 * p + k) = omega arith in rw at (fresh-zero n (246 + 32 * p + k) (omega arith))
+  counters-zero p k hp hk = fresh-counter n p k hp (omega arith)
 
 one-vlan : Distinct (vids (freshSettings .vlans))
 unfolding freshSettings among
@@ -119,7 +115,7 @@ module _ (cells links addresses : List ℕ) (fit : lengthsFit cells links addres
         addresses = record { fit = addresses-fit; says = number-theorems .table-fresh placeCount; in-range = number-theorems .fresh-in-range placeCount };
         counters = counters-zero n;
         traffic =
-            fresh-stands n (freshLinks n) some (omega (arith, fresh-length [] n)) (all-free n) (oldest-zero n) (count-zero n) cells (omega (arith, cells-long));
+            fresh-stands n (freshLinks n) some (omega (arith, fresh-length [] n)) (all-free n) (waiting-zero n) cells (omega (arith, cells-long));
       }
 
   pub stands-fresh : (freshCall cells links addresses .0 ≡ doneWith 0 0) × Stands (onAll [] (freshCall cells links addresses) .memories) (fresh (cellsLent cells))

@@ -2,24 +2,32 @@
 use Prim.Native.Nat.{ℕ, zero, suc, _+_, _*_, _/_, _^_, _≤_, _<_}
 use mathlib.Core.Path.{_≡_, refl, ap, _∙_, fun-ext}
 use mathlib.Core.Bool.{true, false}
-use mathlib.Core.List.{[], _∷_, _++_}
+use mathlib.Core.List.{[], _∷_}
 use native.Mathlib.Decide.{decLt}
 use native.Mathlib.Omega.{arith}
 use lib.Dec.{leb}
 use lib.Pow.{pow-pos, pow-mono, shr-lt}
-use lib.ListN.{length, getD, List·getD-append, length-replicate, getD-replicate}
-use lib.Seq.{getD-append-add}
+use lib.ListN.{getD}
 use borrow.Author.Tests.{lt-ltb, le-ltb, lt-leb}
 use Rattle.rules.specs.Settings.{noOperation}
-use Rattle.rules.specs.Arguments.{kindOf, typeOf, sourceOf, stateOf, bit, flag, isVid, operationInRange, operationOf, portInRange, portOf, vlanInRange, vlanEntry}
+use Rattle.rules.specs.Arguments.{kindOf, typeOf, sourceOf, stateOf, bit, isVid, operationInRange, operationOf, portInRange, portOf, vlanInRange, vlanEntry}
 use Rattle.machine.specs.History.{freshSettings}
 use Rattle.machine.specs.History as Machine
-use Rattle.layout.specs.Places.{mapWord, queueSwitchWord}
-use Rattle.settings.specs.Records.{operationWords, portWords, vlanWords, operationAt, portFrom, vlanFrom, portAt, vlanAt}
-use Rattle.settings.specs.Table.{vlanCount}
-use Rattle.settings.specs.SettingsOf.{freshOperation, freshPort, freshVlan, portsOf, queuesOf, switchOf, switchesOf, bpduOf, vlansFrom, vlansOf, settingsOf}
-use Rattle.fresh_call.specs.Words.{copies, freshFront, freshCounts, freshSwitch, freshPortRecord, freshPorts, freshVlans, freshCells, freshLinks}
-use Rattle.fresh_call.proofs.Runs.{switch-length, ports-length}
+use Rattle.layout.specs.Places.{freeCountWord, firstFreeWord, vlanOperationWord}
+use Rattle.packed.specs.Operations.{operationWord, operationIn}
+use Rattle.packed.specs.Ports.{portIn, vlanIn}
+use Rattle.packed.specs.Ports as Packed
+use Rattle.packed.specs.Maps.{bpduIn}
+use Rattle.packed.specs.Fresh.{freshMap, freshSwitches, freshStates}
+use Rattle.packed.proofs.RangeLaws.{port-range, vlan-range}
+use Rattle.packed.proofs.OperationLaws.{range-good}
+use Rattle.packed.proofs.PortLaws.{port-word-good, vlan-word-good}
+use Rattle.packed.proofs.FreshLaws.{fresh-map, fresh-switches, fresh-switches-good, fresh-states}
+use Rattle.settings.specs.Records.{statesAt, portAt, vlanAt}
+use Rattle.settings.specs.Table.{vlanCount, entryAt}
+use Rattle.settings.specs.SettingsOf.{freshOperation, freshPort, freshVlan, portsOf, queuesOf, switchOf, switchesOf, mapAt, switchesAt, vlansFrom, vlansOf, settingsOf}
+use Rattle.fresh_call.specs.Words.{copies, freshFront, freshSwitch, freshVlans, freshLinks}
+use Rattle.fresh_call.proofs.WordLaws.{fresh-table, fresh-own, fresh-operation}
 use Rattle.histories.specs.Stands.{SettingsInRange}
 
 -- ---- the numbers of ports and PCPs, one by one
@@ -32,12 +40,6 @@ below-five P a b c d e (suc (suc (suc zero))) h = d
 below-five P a b c d e (suc (suc (suc (suc zero)))) h = e
 below-five P a b c d e (suc (suc (suc (suc (suc p))))) h = absurd (omega arith)
 
-below-eight : (P : ℕ → Type 0) → P 0 → P 1 → P 2 → P 3 → P 4 → P 5 → P 6 → P 7 → (p : ℕ) → p < 8 → P p
-below-eight P a b c d e f g i zero h = a
-below-eight P a b c d e f g i (suc zero) h = b
-below-eight P a b c d e f g i (suc (suc zero)) h = c
-below-eight P a b c d e f g i (suc (suc (suc p))) h = below-five (λ (q : ℕ). P (suc (suc (suc q)))) d e f g i p (omega arith)
-
 -- ---- word by word
 
 module _ (n : ℕ) where
@@ -45,54 +47,46 @@ module _ (n : ℕ) where
   unfolding freshLinks freshSwitch freshFront
   fresh-count = refl
 
-  pub fresh-free : getD (freshLinks n) 31 0 ≡ n
-  unfolding freshLinks freshSwitch freshFront freshCounts copies
+  pub fresh-free : getD (freshLinks n) freeCountWord 0 ≡ n
+  unfolding freshLinks freshSwitch freshFront
   fresh-free = refl
 
-  pub fresh-first : getD (freshLinks n) 32 0 ≡ 0
-  unfolding freshLinks freshSwitch freshFront freshCounts copies
+  pub fresh-first : getD (freshLinks n) firstFreeWord 0 ≡ 0
+  unfolding freshLinks freshSwitch freshFront
   fresh-first = refl
 
-  fresh-bpdu : getD (freshLinks n) 1 0 ≡ 1
+  map-is : mapAt (freshLinks n) ≡ freshMap
   unfolding freshLinks freshSwitch freshFront
-  fresh-bpdu = refl
+  map-is = refl
+
+  switches-are : switchesAt (freshLinks n) ≡ freshSwitches
+  unfolding freshLinks freshSwitch freshFront
+  switches-are = refl
+
+  states-are : statesAt (freshLinks n) ≡ freshStates
+  unfolding freshLinks freshSwitch freshFront copies
+  states-are = refl
 
   fresh-vlan-count : vlanCount (freshLinks n) ≡ 1
-  unfolding freshLinks freshSwitch freshFront freshCounts copies
+  unfolding freshLinks freshSwitch freshFront
   fresh-vlan-count = refl
 
-  fresh-map : (pcp : ℕ) → pcp < 8 → getD (freshLinks n) (mapWord pcp) 0 ≡ pcp / 2
-  unfolding freshLinks freshSwitch freshFront
-  fresh-map = below-eight (λ (pcp : ℕ). getD (freshLinks n) (mapWord pcp) 0 ≡ pcp / 2) refl refl refl refl refl refl refl refl
+  -- VLAN entry 0
+  entry-is : entryAt (freshLinks n) 0 ≡ Packed.vlanWord freshVlan
+  unfolding freshVlans
+  entry-is = fresh-table n 0 (omega arith)
 
-  fresh-switch : (i : ℕ) → i < 20 → getD (freshLinks n) (10 + i) 0 ≡ 1
-  unfolding freshLinks freshSwitch freshFront copies
-  fresh-switch i h =
-      getD-append-add (freshFront n) ((copies 20 1 ++ (freshCounts n ++ copies 31 0)) ++ (freshPorts 5 ++ (freshVlans ++ freshCells n n 0))) i 0
-      ∙ List·getD-append (copies 20 1) ((freshCounts n ++ copies 31 0) ++ (freshPorts 5 ++ (freshVlans ++ freshCells n n 0))) 0 i (omega (arith, length-replicate {A = ℕ} 20 1))
-      ∙ getD-replicate 20 i 1 0 h
+  entry-operation-is : getD (freshLinks n) (vlanOperationWord 0) 0 ≡ operationWord (freshVlan .operation)
+  unfolding freshVlans
+  entry-operation-is = fresh-table n 1 (omega arith)
 
   fresh-port-at : (p : ℕ) → p < 5 → portAt (freshLinks n) p ≡ freshPort
-  unfolding freshLinks freshSwitch freshFront freshCounts copies freshPorts freshPortRecord portWords operationWords portFrom operationAt freshPort freshOperation
-  fresh-port-at = below-five (λ (p : ℕ). portAt (freshLinks n) p ≡ freshPort) refl refl refl refl refl
+  unfolding portIn operationIn freshPort freshOperation
+  fresh-port-at p h = rw (states-are, fresh-own n p h, fresh-operation n p h, fresh-states .1 p h)
 
   fresh-vlan-at : vlanAt (freshLinks n) 0 ≡ freshVlan
-  unfolding freshLinks freshSwitch freshFront freshCounts copies freshPorts freshPortRecord freshVlans portWords vlanWords operationWords vlanFrom operationAt freshPort freshVlan freshOperation
-  fresh-vlan-at = refl
-
-  -- behind VLAN entry 0 all is 0 up to the cells: the other entries, the counters, the rings
-  pub fresh-zero : (i : ℕ) → i < 486 → getD (freshLinks n) (154 + i) 0 ≡ 0
-  unfolding freshLinks freshVlans vlanWords operationWords copies
-  fresh-zero i h =
-      let past : 154 + i ≡ length (freshSwitch n) + (90 + i) = omega (arith, switch-length n) in
-      let then : 90 + i ≡ length (freshPorts 5) + (10 + i) = omega (arith, ports-length 5) in
-      rw past
-      (getD-append-add (freshSwitch n) (freshPorts 5 ++ (freshVlans ++ freshCells n n 0)) (90 + i) 0
-      ∙ rw then
-      (getD-append-add (freshPorts 5) (freshVlans ++ freshCells n n 0) (10 + i) 0
-      ∙ getD-append-add (vlanWords freshVlan) (copies 486 0 ++ freshCells n n 0) i 0
-      ∙ List·getD-append (copies 486 0) (freshCells n n 0) 0 i (omega (arith, length-replicate {A = ℕ} 486 0))
-      ∙ getD-replicate 486 i 0 0 h))
+  unfolding vlanIn operationIn freshVlan freshOperation
+  fresh-vlan-at = rw (entry-is, entry-operation-is)
 
 -- ---- masks
 
@@ -142,35 +136,33 @@ module _ (n : ℕ) where
         | no h ↦ let past : 5 ≤ p = omega arith in rw (le-ltb p 5 past) fresh-port-is
       ])
 
-  queues-say : queuesOf (freshLinks n) ≡ (λ pcp. pcp / 2)
+  queues-say : queuesOf (mapAt (freshLinks n)) ≡ (λ pcp. pcp / 2)
   unfolding queuesOf
   queues-say =
-      fun-ext
-      (λ pcp. elim (decLt pcp 8) as (λ _. queuesOf (freshLinks n) pcp ≡ pcp / 2) [
-        | yes h ↦ rw (lt-ltb pcp 8 h) (fresh-map n pcp h)
+      rw (map-is n)
+      (fun-ext
+      (λ pcp. elim (decLt pcp 8) as (λ _. queuesOf freshMap pcp ≡ pcp / 2) [
+        | yes h ↦ rw (lt-ltb pcp 8 h) (fresh-map .2 pcp h)
         | no h ↦ let past : 8 ≤ pcp = omega arith in rw (le-ltb pcp 8 past)
-      ])
+      ]))
 
-  switch-word : (p q : ℕ) → p < 5 → q < 4 → getD (freshLinks n) (queueSwitchWord p q) 0 ≡ 1
-  switch-word p q hp hq = let at : queueSwitchWord p q ≡ 10 + (4 * p + q) = omega arith in rw at (fresh-switch n (4 * p + q) (omega arith))
-
-  switches-say : switchesOf (freshLinks n) ≡ (λ p q. true)
-  unfolding switchesOf switchOf flag
+  switches-say : switchesOf (switchesAt (freshLinks n)) ≡ (λ p q. true)
+  unfolding switchesOf switchOf
   switches-say =
-      fun-ext
-      (λ p. elim (decLt p 5) as (λ _. switchesOf (freshLinks n) p ≡ (λ q. true)) [
+      rw (switches-are n)
+      (fun-ext
+      (λ p. elim (decLt p 5) as (λ _. switchesOf freshSwitches p ≡ (λ q. true)) [
         | yes h ↦ rw (lt-ltb p 5 h)
             (fun-ext
-            (λ q. elim (decLt q 4) as (λ _. switchOf (freshLinks n) p q ≡ true) [
-              | yes k ↦ rw (lt-ltb q 4 k, switch-word p q h k)
+            (λ q. elim (decLt q 4) as (λ _. switchOf freshSwitches p q ≡ true) [
+              | yes k ↦ rw (lt-ltb q 4 k) (fresh-switches p q h k)
               | no k ↦ let past : 4 ≤ q = omega arith in rw (le-ltb q 4 past)
             ]))
         | no h ↦ let past : 5 ≤ p = omega arith in rw (le-ltb p 5 past)
-      ])
+      ]))
 
-  bpdu-says : bpduOf (freshLinks n) ≡ true
-  unfolding bpduOf flag
-  bpdu-says = rw (fresh-bpdu n)
+  bpdu-says : bpduIn (mapAt (freshLinks n)) ≡ true
+  bpdu-says = ap bpduIn (map-is n) ∙ fresh-map .1
 
   vlans-say : vlansOf (freshLinks n) ≡ Machine.freshVlan ∷ []
   unfolding vlansOf vlansFrom
@@ -191,10 +183,14 @@ module _ (n : ℕ) where
   pub fresh-in-range : SettingsInRange (freshLinks n)
   fresh-in-range =
       record {
-        bpdu = omega (arith, fresh-bpdu n);
-        ports = λ p h. rw (fresh-port-at n p h) port-good;
-        map = λ pcp h. omega (arith, fresh-map n pcp h);
-        switches = λ p q hp hq. omega (arith, switch-word p q hp hq);
+        map = rw (map-is n) (fresh-map .0);
+        switches = rw (switches-are n) fresh-switches-good;
+        states = rw (states-are n) (fresh-states .0);
+        ports = λ p h. rw (fresh-own n p h) (port-word-good freshPort port-good);
+        operations = λ p h. rw (fresh-operation n p h) (range-good (freshPort .operation) (port-range freshPort port-good .operation));
         vlan-count = omega (arith, fresh-vlan-count n);
-        vlans = λ e h. let only : e ≡ 0 = omega (arith, fresh-vlan-count n) in rw only (rw (fresh-vlan-at n) vlan-good);
+        vlans = λ e h. let only : e ≡ 0 = omega (arith, fresh-vlan-count n) in rw only (rw (entry-is n) (vlan-word-good freshVlan vlan-good));
+        vlan-operations = λ e h.
+            let only : e ≡ 0 = omega (arith, fresh-vlan-count n) in
+            rw only (rw (entry-operation-is n) (range-good (freshVlan .operation) (vlan-range freshVlan vlan-good .operation)));
       }

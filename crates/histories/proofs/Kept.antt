@@ -1,24 +1,26 @@
 -- What stands for a part of the state goes on standing for it over a write that leaves that part's words alone. Assumes nothing.
-use Prim.Native.Nat.{ℕ, _+_, _*_, _<_}
+use Prim.Native.Nat.{ℕ, _<_}
 use mathlib.Core.Path.{_≡_, refl, ap, _∙_}
 use mathlib.Core.Bool.{true}
 use mathlib.Core.List.{List}
 use native.Mathlib.Omega.{arith}
-use lib.ListN.{length, getD}
+use lib.ListN.{length}
 use Rattle.rules.specs.Settings.{Settings}
 use Rattle.rules.proofs.Choice.{each-map}
 use Rattle.machine.specs.Waiting.{Waiting}
 use Rattle.machine.specs.Events.{Counts}
-use Rattle.layout.specs.Places.{ringOfQueue, freeCountWord, firstFreeWord, mapWord, queueSwitchWord, counterWord}
-use Rattle.layout.specs.Same.{SettingsSame, CellsSame, RingSame}
+use Rattle.layout.specs.Places.{mapWord, switchesWord, vlanCountWord, statesWord, vlanWord, vlanOperationWord}
+use Rattle.layout.specs.Same.{SettingsSame, CellsSame, QueuesSame}
 use Rattle.lent.specs.Lengths.{cellCount, linksFit, cellsFit}
-use Rattle.settings.specs.Records.{portAt, vlanAt}
-use Rattle.settings.specs.RecordLaws.{port-alike, vlan-alike}
-use Rattle.settings.specs.SettingsAlike.{settings-alike}
-use Rattle.settings.specs.SameLaws.{same-counters}
+use Rattle.settings.specs.Table.{vlanCount}
+pub use Rattle.settings.proofs.SettingsAlike.{SettingWords}
+use Rattle.settings.proofs.SettingsAlike.{settings-alike}
+pub use Rattle.settings.proofs.SameLaws.{same-words}
+use Rattle.settings.proofs.SameLaws.{same-counters}
 use Rattle.cells.specs.Bytes.{frameIn}
-use Rattle.cells.proofs.Unchanged.{same-free, same-frame, same-sound}
-use Rattle.queues.proofs.Entries.{ring-same}
+use Rattle.cells.proofs.Unchanged.{same-size, same-ports, same-free, same-frame, same-sound}
+use Rattle.queues.proofs.Lists.{list-same, all-same}
+use Rattle.queues.proofs.WaitingWords.{waiting-same}
 use Rattle.take_out.specs.Frames.{storedAt, frameOf}
 use Rattle.standing.specs.LinkTraffic.{linksIn, WaitsAs}
 use Rattle.standing.specs.Traffic.{HoldsFrame, Traffic}
@@ -36,20 +38,20 @@ module _ (l m : List ℕ) (long : length m ≡ length l) where
   unfolding cellsFit
   cells-fit-same cells same fit = rw same fit
 
-  -- ---- the traffic: cells and rings
+  -- ---- the traffic: cells and queues
 
-  module _ (n : ℕ) (cells : List ℕ) (ws : List Waiting) (same : CellsSame l m) (rings : (r : ℕ) → r < 20 → RingSame r l m) where
-    holds-same : (c : ℕ) (w : Waiting) → HoldsFrame cells l c w → HoldsFrame cells m c w
+  module _ (n : ℕ) (cells : List ℕ) (ws : List Waiting) (same : CellsSame l m) (queues : QueuesSame l m) where
+    holds-same : (c : ℕ) (w : Waiting) → HoldsFrame n cells l c w → HoldsFrame n cells m c w
     holds-same c w h =
         record {
-          frame = ap (λ (row : List ℕ). frameOf (storedAt cells c) (frameIn cells row (storedAt cells c .length)) (w .frame .queue)) (same-frame same c) ∙ h .frame;
+          frame = ap (λ (row : List ℕ). frameOf (storedAt cells c) (frameIn cells row (storedAt cells c .length)) (w .frame .queue)) (same-frame same n c) ∙ h .frame;
           in-range = h .in-range;
-          size = same .size c ∙ h .size;
+          size = same-size same c ∙ h .size;
         }
 
     waits-same : (c : ℕ) (w : Waiting) → WaitsAs n l c w → WaitsAs n m c w
     waits-same c w h =
-        record { below = h .below; somewhere = h .somewhere; ascending = h .ascending; said = same .ports c ∙ h .said; few = h .few; low = h .low }
+        record { below = h .below; somewhere = h .somewhere; ascending = h .ascending; said = same-ports same c ∙ h .said; few = h .few; low = h .low }
 
     pub traffic-same : Traffic n cells l ws → Traffic n cells m ws
     unfolding linksIn stands-same
@@ -58,13 +60,14 @@ module _ (l m : List ℕ) (long : length m ≡ length l) where
         record {
           links-stand = record {
             held = L .held;
-            stands = stands-same n (linksIn n l (L .held)) (linksIn n m (L .held)) ws (L .stands) (same-free same)
-                (λ p q hp hq. ring-same n (rings (ringOfQueue p q) (omega arith)))
-                (each-map (λ c k. (same-frame same c, refl)) (L .waits));
+            stands = stands-same n (linksIn n l (L .held)) (linksIn n m (L .held)) ws (L .stands) (same-free same n)
+                (list-same n queues)
+                (each-map (λ c k. (same-frame same n c, refl)) (L .waits));
             waits = each-map (λ c k. waits-same c (L .held c) k) (L .waits);
             long = omega (arith, long, L .long);
             sound = same-sound same (L .sound);
-            oldest = λ r hr. rw (rings r hr .oldest) (L .oldest r hr);
+            queues = all-same n queues (L .queues);
+            waiting-words = waiting-same queues (L .waiting-words);
           };
           cells-long = T .cells-long;
           frames = each-map (λ c k. holds-same c (L .held c) k) (T .frames);
@@ -72,47 +75,44 @@ module _ (l m : List ℕ) (long : length m ≡ length l) where
 
 -- ---- settings and counters
 
--- the words of the settings: those below the counters' but for the free cells' two
-pub record SettingWords (l m : List ℕ) : Type 0 where
-  pub word : (w : ℕ) → w < counterWord 0 0 → (w ≡ freeCountWord → ⊥) → (w ≡ firstFreeWord → ⊥) → getD m w 0 ≡ getD l w 0
+-- the same words, and one write after another
+pub words-self : (l : List ℕ) → SettingWords l l
+words-self l = record { word = λ w h f g. refl; own = λ p h. refl; operation = λ p h. refl }
+
+pub words-then : {l m n : List ℕ} → SettingWords l m → SettingWords m n → SettingWords l n
+words-then a b =
+    record {
+      word = λ w h f g. b .word w h f g ∙ a .word w h f g;
+      own = λ p h. b .own p h ∙ a .own p h;
+      operation = λ p h. b .operation p h ∙ a .operation p h;
+    }
 
 module _ {l m : List ℕ} (same : SettingWords l m) where
   pub cell-count-same : cellCount m ≡ cellCount l
   cell-count-same = same .word 0 (omega arith) (λ e. omega arith) (λ e. omega arith)
 
-  port-same : (p : ℕ) → p < 5 → portAt m p ≡ portAt l p
-  port-same p h = port-alike (record { word = λ k hk. same .word (64 + 16 * p + k) (omega arith) (λ e. omega arith) (λ e. omega arith) })
-
-  vlan-same : (e : ℕ) → e < 16 → vlanAt m e ≡ vlanAt l e
-  vlan-same e h = vlan-alike (record { word = λ k hk. same .word (144 + 16 * e + k) (omega arith) (λ z. omega arith) (λ z. omega arith) })
-
   in-range-same : SettingsInRange l → SettingsInRange m
   in-range-same h =
-      let count = same .word 30 (omega arith) (λ e. omega arith) (λ e. omega arith) in
+      let count = same .word vlanCountWord (omega arith) (λ e. omega arith) (λ e. omega arith) in
       record {
-        bpdu = rw (same .word 1 (omega arith) (λ e. omega arith) (λ e. omega arith)) (h .bpdu);
-        ports = λ p hp. rw (port-same p hp) (h .ports p hp);
-        map = λ pcp hp. rw (same .word (mapWord pcp) (omega arith) (λ e. omega arith) (λ e. omega arith)) (h .map pcp hp);
-        switches = λ p q hp hq. rw (same .word (queueSwitchWord p q) (omega arith) (λ e. omega arith) (λ e. omega arith)) (h .switches p q hp hq);
+        map = rw (same .word mapWord (omega arith) (λ e. omega arith) (λ e. omega arith)) (h .map);
+        switches = rw (same .word switchesWord (omega arith) (λ e. omega arith) (λ e. omega arith)) (h .switches);
+        states = rw (same .word statesWord (omega arith) (λ e. omega arith) (λ e. omega arith)) (h .states);
+        ports = λ p hp. rw (same .own p hp) (h .ports p hp);
+        operations = λ p hp. rw (same .operation p hp) (h .operations p hp);
         vlan-count = rw count (h .vlan-count);
-        vlans = λ e he. rw (vlan-same e (omega (arith, count, h .vlan-count))) (h .vlans e (omega (arith, count)));
+        vlans = λ e he.
+            let used : e < vlanCount l = omega (arith, count) in
+            rw (same .word (vlanWord e) (omega (arith, h .vlan-count)) (λ z. omega arith) (λ z. omega arith)) (h .vlans e used);
+        vlan-operations = λ e he.
+            let used : e < vlanCount l = omega (arith, count) in
+            rw (same .word (vlanOperationWord e) (omega (arith, h .vlan-count)) (λ z. omega arith) (λ z. omega arith)) (h .vlan-operations e used);
       }
 
   pub settings-same : (s : Settings) → SettingsStand l s → SettingsStand m s
-  settings-same s h =
-      record {
-        says = settings-alike
-            (record { word = λ k hk. same .word (1 + k) (omega arith) (λ e. omega arith) (λ e. omega arith) })
-            (record { word = λ k hk. same .word (64 + k) (omega arith) (λ e. omega arith) (λ e. omega arith) })
-            ∙ h .says;
-        in-range = in-range-same (h .in-range);
-        once = h .once;
-      }
+  settings-same s h = record { says = settings-alike same ∙ h .says; in-range = in-range-same (h .in-range); once = h .once }
 
--- a write of cells or rings leaves the settings and the counters
+-- a write of cells or queues leaves the counters
 module _ {l m : List ℕ} (same : SettingsSame l m) where
-  pub same-words : SettingWords l m
-  same-words = record { word = λ w h f g. same .word w (omega arith) f g }
-
   pub counters-same : (c : Counts) → CountersStand l c → CountersStand m c
   counters-same c h p k hp hk = same-counters same p k hp (omega arith) ∙ h p k hp hk

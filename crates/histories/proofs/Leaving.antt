@@ -1,4 +1,4 @@
--- Each frame that stands in a port's ring can leave that port: no test before a take or a drain finds damage. Assumes nothing.
+-- Each frame that stands in a port's queue can leave that port: no test before a take or a drain finds damage. Assumes nothing.
 use Prim.Native.Nat.{ℕ, zero, suc, _+_, _*_, _/_, _%_, _^_, _≤_, _<_}
 use mathlib.Core.Path.{_≡_, sym, ap, _∙_}
 use mathlib.Core.Bool.{Bool, true, false}
@@ -12,15 +12,13 @@ use Rattle.rules.specs.Arguments.{bit}
 use Rattle.rules.proofs.Choice.{on, and-left, each-map, each-zip}
 use Rattle.machine.specs.Waiting.{Waiting, size, waitsAt}
 use Rattle.machine.specs.FrameIn.{mask}
-use Rattle.layout.specs.Places.{ringOfQueue}
 use Rattle.cells.specs.Free.{sizeOf, portsOf, isFrame}
 use Rattle.cells.proofs.Room.{frame-is, give-back-can}
 use Rattle.cells.proofs.Paths.{length-follow}
-use Rattle.queues.specs.Rings.{ringOf}
+use Rattle.queues.specs.Lists.{listOf}
 use Rattle.standing.specs.Links.{RowOk}
 use Rattle.standing.specs.LinkTraffic.{linksIn, WaitsAs, LinkTraffic}
-use Rattle.standing.proofs.Masks.{ascending-mask}
-use Rattle.take_out.specs.Leaving.{isLast, canLeave}
+use Rattle.take_out.specs.Leaving.{isLast, hasRoom, canLeave}
 
 -- ---- the bit of a port in the mask of ascending ports
 
@@ -66,7 +64,7 @@ unfolding bit
 ascending-bit p ps hp asc h =
     eq-eqb (mask ps / 2 ^ p % 2) 1 (mask-bit (λ r. among r ps) (mask ps) (ap mask asc) p hp ∙ ap weight h)
 
--- ---- the members of a ring
+-- ---- the members of a queue
 
 -- a member of a part of a list passes its test, and has what each member has
 sift-each : {P : ℕ → Type 0} (t : ℕ → Bool) {xs : List ℕ} → Each P xs → Each (λ (x : ℕ). P x × (t x ≡ true)) (sift t xs)
@@ -77,22 +75,21 @@ sift-each t (also {a = x} h hs) = on (t x) (λ e. rw e (also (h, e) (sift-each t
 module _ (n : ℕ) (links : List ℕ) (ws : List Waiting) (T : LinkTraffic n links ws) (p : ℕ) (hp : p < 5) where
   leaves-one : (c : ℕ) → WaitsAs n links c (T .held c) → RowOk (linksIn n links (T .held)) c → among p (T .held c .ports) ≡ true
       → canLeave n p c links ≡ true
-  unfolding canLeave linksIn size
+  unfolding canLeave hasRoom linksIn size
   leaves-one c W R h =
       let waits : 1 ≤ portsOf links c = rw (W .said) (W .somewhere) in
-      let sized : sizeOf links c ≡ size (T .held c .frame) = sym (length-follow links (sizeOf links c) c) ∙ R .sized in
-      let is-frame : isFrame n c links ≡ true =
-      frame-is n links (T .sound) c (W .below) waits (omega (arith, sized)) (omega (arith, sized, W .few))
-      (omega (arith, W .said, ascending-mask (T .held c .ports) (W .ascending))) in
+      let sized : sizeOf links c ≡ size (T .held c .frame) = sym (length-follow n links (sizeOf links c) c) ∙ R .sized in
+      let is-frame : isFrame c links ≡ true =
+      frame-is n links (T .sound) c (omega (arith, sized)) (omega (arith, sized, W .few)) in
       rw (lt-ltb c n (W .below), is-frame, ap (λ (m : ℕ). bit m p) (W .said) ∙ ascending-bit p (T .held c .ports) hp (W .ascending) h)
       (on (isLast p c links) (λ e. rw (e, give-back-can n links (T .sound) c (W .below) waits)) (λ e. rw e))
 
   module _ (q : ℕ) (hq : q < 4) where
-    -- each member of the ring of (p, q)
-    pub can-leave : Each (λ (c : ℕ). canLeave n p c links ≡ true) (ringOf n links (ringOfQueue p q))
+    -- each member of queue (p, q)
+    pub can-leave : Each (λ (c : ℕ). canLeave n p c links ≡ true) (listOf n links p q)
     unfolding linksIn waitsAt
     can-leave =
-        rw (T .stands .rings p q hp hq)
+        rw (T .stands .lists p q hp hq)
         (each-map
         (λ c k. leaves-one c (k .0 .0) (k .0 .1) (and-left (among p (T .held c .ports)) (eqb q (T .held c .frame .queue)) (k .1)))
         (sift-each (λ i. waitsAt p q (T .held i)) (each-zip (T .waits) (T .stands .rows))))

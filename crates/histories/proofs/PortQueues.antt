@@ -1,4 +1,4 @@
--- What waits at a port waits in its four queues, and memory's rings count it. Assumes nothing.
+-- What waits at a port waits in its four queues, and memory's lists are as long. Assumes nothing.
 use Prim.Native.Nat.{ℕ, zero, suc, _+_, _<_}
 use mathlib.Core.Path.{_≡_, refl, sym, ap, _∙_}
 use mathlib.Core.Bool.{Bool, true, false}
@@ -11,13 +11,10 @@ use Rattle.rules.specs.Outcomes.{Frame}
 use Rattle.rules.proofs.Choice.{on, onList, each-map}
 use Rattle.machine.specs.Waiting.{Waiting, portAt, waitsAt, queueAt}
 use Rattle.machine.specs.FrameIn.{mask}
-use Rattle.layout.specs.Places.{ringOfQueue}
-use Rattle.queues.specs.Rings.{countOf, ringOf}
-use Rattle.queues.proofs.Answers.{length-ring}
-use Rattle.take_out.specs.Drain.{copies}
+use Rattle.queues.specs.Lists.{listOf}
 use Rattle.standing.specs.TrafficTheorems.{Somewhere}
 use Rattle.standing.specs.LinkTraffic.{linksIn, WaitsAs, LinkTraffic}
-use Rattle.standing.proofs.Reading.{ring-is-queue}
+use Rattle.standing.proofs.Reading.{list-is-queue}
 
 -- ---- the four queues of a port
 
@@ -86,24 +83,10 @@ module _ (n : ℕ) (links : List ℕ) (ws : List Waiting) (T : LinkTraffic n lin
           (λ e. absurd (omega (arith, h .somewhere, ap mask e)))
           (λ m ms e. (m, ms, e))
 
-  -- a ring has as many entries as its queue has frames
-  pub ring-length : (p q : ℕ) → p < 5 → q < 4 → countOf links (ringOfQueue p q) ≡ length (queueAt p q ws)
+  -- a list has as many frames as its queue
+  pub list-length : (p q : ℕ) → p < 5 → q < 4 → length (listOf n links p q) ≡ length (queueAt p q ws)
   unfolding linksIn
-  ring-length p q hp hq =
-      let ring : List ℕ = ringOf n links (ringOfQueue p q) in
+  list-length p q hp hq =
       let frameAt : ℕ → Frame = λ i. T .held i .frame in
-      sym (length-ring n (ringOfQueue p q) links)
-      ∙ sym (length-map ring frameAt)
-      ∙ ap length (ring-is-queue n (linksIn n links (T .held)) ws (T .stands) p q hp hq)
-
-  pub copies-are : (p : ℕ) → p < 5 → copies p links ≡ length (portAt p ws)
-  unfolding copies
-  copies-are p hp =
-      omega (
-        arith,
-        port-count p ws all-in-queues,
-        ring-length p 3 hp (omega arith),
-        ring-length p 2 hp (omega arith),
-        ring-length p 1 hp (omega arith),
-        ring-length p 0 hp (omega arith),
-      )
+      sym (length-map (listOf n links p q) frameAt)
+      ∙ ap length (list-is-queue n (linksIn n links (T .held)) ws (T .stands) p q hp hq)

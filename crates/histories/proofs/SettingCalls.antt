@@ -1,13 +1,11 @@
 -- The calls on a counter, a port, the queues and BPDU handling follow the machine. Assumes nothing.
 use Prim.Native.Nat.{ℕ, _≤_, _<_}
 use mathlib.Core.Path.{_≡_, refl, ap, _∙_}
-use mathlib.Core.Bool.{true, _&&_}
+use mathlib.Core.Bool.{Bool, true, false, _&&_, not}
 use mathlib.Core.List.{[], _∷_}
 use mathlib.Core.Option.{none}
 use native.Mathlib.Omega.{arith}
 use lib.Dec.{leb}
-use lib.ListN.{set}
-use lib.Seq.{sets}
 use borrow.Author.Tests.{leb-true, ltb-false, not-false}
 use Rattle.rules.specs.Lines.{first}
 use Rattle.rules.specs.Numbers.{managementPort, lastCounter, mostPcp, mostQueue}
@@ -20,17 +18,16 @@ use Rattle.rules.specs.Requests.{CounterRequest, PortRequest, MapRequest, Switc
 use Rattle.machine.specs.State.{counter, port, map, queueSwitch, bpdu}
 use Rattle.machine.specs.SettingCalls.{withPort, withQueue, withSwitch, withBpdu}
 use Rattle.machine.specs.Machine.{linesOf, carryOut, next}
-use Rattle.layout.specs.Places.{bpduWord, mapWord, queueSwitchWord, portWord}
+use Rattle.layout.specs.Places.{mapWord, switchesWord}
 use Rattle.lent.specs.Answers.{doneWith}
-use Rattle.settings.specs.Records.{portWords}
-use Rattle.settings.specs.RecordLaws.{port-words-length}
-use Rattle.settings.specs.SettingsLaws.{port-written, queue-written, switch-written, bpdu-written}
-use Rattle.settings.specs.CounterLaws.{counterAt}
-use Rattle.setting_calls.specs.Calls.{counterRefusals, counterCall, portRefusals, portCall, mapRefusals, mapCall, queueSwitchRefusals, queueSwitchCall, bpduRefusals, bpduCall}
+use Rattle.settings.specs.Records.{portWritten}
+use Rattle.settings.proofs.SettingsLaws.{port-written, queue-written, switch-written, bpdu-written}
+use Rattle.settings.proofs.CounterLaws.{counterAt}
+use Rattle.setting_calls.specs.Calls.{counterRefusals, counterCall, portRefusals, portCall, queueWritten, mapRefusals, mapCall, switchWritten, queueSwitchRefusals, queueSwitchCall, bpduWritten, bpduRefusals, bpduCall}
 use Rattle.histories.specs.Runs.{onLinks, run}
 use Rattle.histories.specs.Follows.{numbersOf, handedBack, CallFollows}
-use Rattle.histories.proofs.Answers.{lines-alone, follows-by}
-use Rattle.histories.proofs.Settled.{links-long, set-before, set-behind, setting-follows}
+use Rattle.histories.proofs.Answers.{lines-alone, lines-between, follows-by}
+use Rattle.histories.proofs.Settled.{links-long, set-before, set-port, setting-follows}
 use Rattle.histories.proofs.SettingRanges.{port-in-range, map-in-range, switch-in-range, bpdu-in-range}
 
 -- ---- counter
@@ -52,6 +49,10 @@ counter-follows c m s S buffer handed =
     let allowed = counter-allowed c e in
     record { same-answer = ap (λ (x : ℕ). doneWith x 0) (S .counters p k (allowed .0) (allowed .1)); same-bytes = refl; stands-kept = S })
 
+-- a word in range is no damage
+sound : {b : Bool} → b ≡ true → not b ≡ false
+sound e = rw e
+
 -- ---- port
 
 port-allowed : (c : PortRequest) → first (portLines c) ≡ none → (c .port < 5) × (portInRange (c .new) ≡ true)
@@ -65,15 +66,15 @@ unfolding run portCall portRefusals linesOf carryOut withPort
 port-follows c m s S buffer handed =
     let p = c .port in
     let n = c .new in
-    let links = sets (m .links) (portWord p) (portWords n) in
+    let links = portWritten (m .links) p n in
     let long = links-long m s S in
-    setting-follows m s S (port c) buffer (first (portRefusals (m .links) p n)) (lines-alone (portLines c) (S .links-fit)) links
+    setting-follows m s S (port c) buffer (first (portRefusals (m .links) p n)) (lines-between (portLines c) (S .links-fit) (sound (S .settings .in-range .states))) links
     (withPort p (portOf n) (s .core .settings)) refl
     (λ e.
     let allowed = port-allowed c e in (
-      set-behind (m .links) (portWord p) (portWords n) (omega arith) (omega (arith, port-words-length n, allowed .0)),
+      set-port (m .links) p n (allowed .0),
       record {
-        says = port-written (m .links) p n long (allowed .0) ∙ ap (withPort p (portOf n)) (S .settings .says);
+        says = port-written (m .links) p n long (allowed .0) (allowed .1) ∙ ap (withPort p (portOf n)) (S .settings .says);
         in-range = port-in-range (m .links) long (S .settings .in-range) p n (allowed .0) (allowed .1);
         once = S .settings .once;
       },
@@ -90,20 +91,20 @@ map-allowed c e =
     (omega (arith, leb-true pcp mostPcp (and-left _ (leb q mostQueue) both)), leb-true q mostQueue (and-right (leb pcp mostPcp) _ both))
 
 pub map-follows : (c : MapRequest) → CallFollows (map c)
-unfolding run mapCall mapRefusals linesOf carryOut withQueue
+unfolding run mapCall mapRefusals queueWritten linesOf carryOut withQueue
 map-follows c m s S buffer handed =
     let pcp = c .pcp in
     let q = c .queue in
-    let links = set (m .links) (mapWord pcp) q in
+    let links = queueWritten (m .links) pcp q in
     let long = links-long m s S in
-    setting-follows m s S (map c) buffer (first (mapRefusals (m .links) pcp q)) (lines-alone (mapLines c) (S .links-fit)) links
+    setting-follows m s S (map c) buffer (first (mapRefusals (m .links) pcp q)) (lines-between (mapLines c) (S .links-fit) (sound (S .settings .in-range .map))) links
     (withQueue pcp q (s .core .settings)) refl
     (λ e.
     let allowed = map-allowed c e in (
-      set-before (m .links) (mapWord pcp) (q ∷ []) (omega arith) (omega (arith, allowed .0)),
+      set-before (m .links) mapWord (_ ∷ []) (omega arith) (omega arith),
       record {
-        says = queue-written (m .links) pcp q long (allowed .0) ∙ ap (withQueue pcp q) (S .settings .says);
-        in-range = map-in-range (m .links) long (S .settings .in-range) pcp q (allowed .0) (allowed .1);
+        says = queue-written (m .links) pcp q long (allowed .0) (allowed .1) ∙ ap (withQueue pcp q) (S .settings .says);
+        in-range = map-in-range (m .links) long (S .settings .in-range) pcp q (allowed .0);
         once = S .settings .once;
       },
     ))
@@ -124,43 +125,39 @@ queue-switch-allowed c e =
     )
 
 pub queue-switch-follows : (c : SwitchRequest) → CallFollows (queueSwitch c)
-unfolding run queueSwitchCall queueSwitchRefusals linesOf carryOut withSwitch
+unfolding run queueSwitchCall queueSwitchRefusals switchWritten linesOf carryOut withSwitch
 queue-switch-follows c m s S buffer handed =
     let p = c .port in
     let q = c .queue in
     let on = c .on in
-    let links = set (m .links) (queueSwitchWord p q) on in
+    let links = switchWritten (m .links) p q on in
     let long = links-long m s S in
-    setting-follows m s S (queueSwitch c) buffer (first (queueSwitchRefusals (m .links) p q on)) (lines-alone (queueSwitchLines c) (S .links-fit)) links
+    setting-follows m s S (queueSwitch c) buffer (first (queueSwitchRefusals (m .links) p q on)) (lines-between (queueSwitchLines c) (S .links-fit) (sound (S .settings .in-range .switches))) links
     (withSwitch p q (flag on) (s .core .settings)) refl
     (λ e.
     let allowed = queue-switch-allowed c e in (
-      set-before (m .links) (queueSwitchWord p q) (on ∷ []) (omega arith) (omega (arith, allowed .0, allowed .1)),
+      set-before (m .links) switchesWord (_ ∷ []) (omega arith) (omega arith),
       record {
-        says = switch-written (m .links) p q on long (allowed .0) (allowed .1) ∙ ap (withSwitch p q (flag on)) (S .settings .says);
-        in-range = switch-in-range (m .links) long (S .settings .in-range) p q on (allowed .0) (allowed .1) (allowed .2);
+        says = switch-written (m .links) p q (flag on) long (allowed .0) (allowed .1) ∙ ap (withSwitch p q (flag on)) (S .settings .says);
+        in-range = switch-in-range (m .links) long (S .settings .in-range) p q (flag on) (allowed .0) (allowed .1);
         once = S .settings .once;
       },
     ))
 
 -- ---- BPDU switch
 
-bpdu-allowed : (on : ℕ) → first (bpduLines on) ≡ none → on ≤ 1
-unfolding bpduLines
-bpdu-allowed on e = leb-true on 1 (not-false (leb on 1) (each-first (holds-none _ e)))
-
 pub bpdu-follows : (on : ℕ) → CallFollows (bpdu on)
-unfolding run bpduCall bpduRefusals linesOf carryOut withBpdu
+unfolding run bpduCall bpduRefusals bpduWritten linesOf carryOut withBpdu
 bpdu-follows on m s S buffer handed =
-    let links = set (m .links) bpduWord on in
+    let links = bpduWritten (m .links) on in
     let long = links-long m s S in
-    setting-follows m s S (bpdu on) buffer (first (bpduRefusals (m .links) on)) (lines-alone (bpduLines on) (S .links-fit)) links
+    setting-follows m s S (bpdu on) buffer (first (bpduRefusals (m .links) on)) (lines-between (bpduLines on) (S .links-fit) (sound (S .settings .in-range .map))) links
     (withBpdu (flag on) (s .core .settings)) refl
     (λ e. (
-      set-before (m .links) bpduWord (on ∷ []) (omega arith) (omega arith),
+      set-before (m .links) mapWord (_ ∷ []) (omega arith) (omega arith),
       record {
-        says = bpdu-written (m .links) on long ∙ ap (withBpdu (flag on)) (S .settings .says);
-        in-range = bpdu-in-range (m .links) long (S .settings .in-range) on (bpdu-allowed on e);
+        says = bpdu-written (m .links) (flag on) long ∙ ap (withBpdu (flag on)) (S .settings .says);
+        in-range = bpdu-in-range (m .links) long (S .settings .in-range) (flag on);
         once = S .settings .once;
       },
     ))

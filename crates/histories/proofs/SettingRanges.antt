@@ -1,113 +1,102 @@
--- Settings in range stay in range where their words are kept, and a record or word that is written is in range. Assumes nothing.
-use Prim.Native.Nat.{ℕ, _+_, _*_, _≤_, _<_}
-use mathlib.Core.Path.{_≡_}
-use mathlib.Core.Bool.{true}
-use mathlib.Core.List.{List, [], _∷_}
-use native.Mathlib.Decide.{decLt}
+-- Settings in range stay in range where their words are kept, and a word that is written is in range. Assumes nothing.
+use Prim.Native.Nat.{ℕ, _≤_, _<_}
+use mathlib.Core.Path.{_≡_, sym}
+use mathlib.Core.Bool.{Bool, true}
+use mathlib.Core.List.{List}
 use native.Mathlib.Omega.{arith}
 use borrow.Author.Tests.{eqb-true, eqb-false}
 use lib.Dec.{eqb}
 use lib.ListN.{length, getD, set}
-use lib.Seq.{sets, getD-set-same, getD-set-other}
-use Rattle.rules.specs.Arguments.{PortNumbers, portInRange, vlanInRange}
+use lib.Seq.{getD-set-same, getD-set-other}
+use Rattle.rules.specs.Arguments.{PortNumbers, portInRange}
 use Rattle.rules.proofs.Choice.{on}
-use Rattle.layout.specs.Places.{bpduWord, mapWord, queueSwitchWord, portWord}
-use Rattle.settings.specs.Records.{portWords, portAt, vlanAt}
-use Rattle.settings.specs.RecordLaws.{Alike, alike-later, alike-before, alike-after, port-alike, vlan-alike, port-words-length, port-read-back}
+use Rattle.layout.specs.Places.{fixedWords, mapWord, switchesWord, vlanCountWord, statesWord, portWord, portOperationWord, vlanWord, vlanOperationWord}
+use Rattle.packed.specs.States.{isStatesWord}
+use Rattle.packed.specs.Switches.{isSwitchesWord, withSwitch}
+use Rattle.packed.specs.Maps.{isMapWord, withQueue, withBpdu}
+use Rattle.packed.proofs.RangeLaws.{port-range}
+use Rattle.packed.proofs.OperationLaws.{range-good}
+use Rattle.packed.proofs.PortLaws.{port-word-good}
+use Rattle.packed.proofs.StateLaws.{state-good}
+use Rattle.packed.proofs.SwitchLaws.{switch-good}
+use Rattle.packed.proofs.MapLaws.{queue-good, bpdu-good}
+use Rattle.settings.specs.Records.{statesAt, portWritten}
+use Rattle.settings.proofs.RecordLaws.{port-keeps, states-written, own-written, operation-written}
 use Rattle.settings.specs.Table.{vlanCount}
+use Rattle.settings.specs.SettingsOf.{mapAt, switchesAt}
 use Rattle.histories.specs.Stands.{SettingsInRange}
 
--- ---- words kept
+module _ (l : List ℕ) (long : fixedWords ≤ length l) (range : SettingsInRange l) where
+  -- ---- a port
 
-module _ {l m : List ℕ} (range : SettingsInRange l) where
-  pub bpdu-kept : Alike 1 m 1 l 1 → getD m bpduWord 0 ≤ 1
-  bpdu-kept same = rw (same .word 0 (omega arith)) (range .bpdu)
-
-  pub map-kept : Alike 8 m 2 l 2 → (pcp : ℕ) → pcp < 8 → getD m (mapWord pcp) 0 ≤ 3
-  map-kept same pcp h = rw (same .word pcp h) (range .map pcp h)
-
-  pub switches-kept : Alike 20 m 10 l 10 → (p q : ℕ) → p < 5 → q < 4 → getD m (queueSwitchWord p q) 0 ≤ 1
-  switches-kept same p q hp hq = rw (alike-later (4 * p) 4 same (omega arith) .word q hq) (range .switches p q hp hq)
-
-  pub ports-kept : Alike 80 m 64 l 64 → (p : ℕ) → p < 5 → portInRange (portAt m p) ≡ true
-  ports-kept same p h = rw (port-alike (alike-later (16 * p) 13 same (omega arith))) (range .ports p h)
-
-  pub vlan-count-kept : Alike 1 m 30 l 30 → vlanCount m ≤ 16
-  vlan-count-kept same = rw (same .word 0 (omega arith)) (range .vlan-count)
-
-  pub vlans-kept : Alike 1 m 30 l 30 → Alike 256 m 144 l 144 → (e : ℕ) → e < vlanCount m → vlanInRange (vlanAt m e) ≡ true
-  vlans-kept count same e h =
-      let used : e < vlanCount l = omega (arith, count .word 0 (omega arith)) in
-      let fits : 16 * e + 10 ≤ 256 = omega (arith, range .vlan-count) in
-      rw (vlan-alike (alike-later (16 * e) 10 same fits)) (range .vlans e used)
-
--- ---- words written
-
-module _ (l : List ℕ) (long : 640 ≤ length l) (range : SettingsInRange l) where
-  pub port-in-range : (p : ℕ) (n : PortNumbers) → p < 5 → portInRange n ≡ true → SettingsInRange (sets l (portWord p) (portWords n))
+  pub port-in-range : (p : ℕ) (n : PortNumbers) → p < 5 → portInRange n ≡ true → SettingsInRange (portWritten l p n)
   port-in-range p n hp good =
-      let ws = portWords n in
-      let at = portWord p in
-      let size = port-words-length n in
+      let r = port-range n good in
+      let count = port-keeps l p n vlanCountWord (λ e. omega arith) (λ e. omega arith) (λ e. omega arith) in
       record {
-        bpdu = bpdu-kept range (alike-before l at ws 1 1 (omega arith));
+        map = rw (port-keeps l p n mapWord (λ e. omega arith) (λ e. omega arith) (λ e. omega arith)) (range .map);
+        switches = rw (port-keeps l p n switchesWord (λ e. omega arith) (λ e. omega arith) (λ e. omega arith)) (range .switches);
+        states = rw (states-written l p n long hp) (state-good (statesAt l) p (n .state) hp (r .state) (range .states));
         ports = λ j hj. on (eqb j p)
-            (λ same. rw (eqb-true j p same, port-read-back l at n (omega arith)) good)
-            (λ other. rw (elsewhere l p n j (eqb-false j p other)) (range .ports j hj));
-        map = map-kept range (alike-before l at ws 8 2 (omega arith));
-        switches = switches-kept range (alike-before l at ws 20 10 (omega arith));
-        vlan-count = vlan-count-kept range (alike-before l at ws 1 30 (omega arith));
-        vlans = vlans-kept range (alike-before l at ws 1 30 (omega arith)) (alike-after l at ws 256 144 (omega arith));
-      }
-    where
-      elsewhere : (l : List ℕ) (p : ℕ) (n : PortNumbers) (j : ℕ) → (j ≡ p → ⊥) → portAt (sets l (portWord p) (portWords n)) j ≡ portAt l j
-      elsewhere l p n j other =
-          elim (decLt j p) as (λ _. portAt (sets l (portWord p) (portWords n)) j ≡ portAt l j) [
-            | yes h ↦ port-alike (alike-before l (portWord p) (portWords n) 13 (portWord j) (omega arith))
-            | no h ↦ elim (decLt p j) as (λ _. portAt (sets l (portWord p) (portWords n)) j ≡ portAt l j) [
-              | yes k ↦ port-alike (alike-after l (portWord p) (portWords n) 13 (portWord j) (omega (arith, port-words-length n)))
-              | no k ↦ absurd (other (omega arith))
-            ]
-          ]
-
-  pub map-in-range : (pcp queue : ℕ) → pcp < 8 → queue ≤ 3 → SettingsInRange (set l (mapWord pcp) queue)
-  map-in-range pcp queue h good =
-      let ws = queue ∷ [] in
-      let at = mapWord pcp in
-      record {
-        bpdu = bpdu-kept range (alike-before l at ws 1 1 (omega arith));
-        ports = ports-kept range (alike-after l at ws 80 64 (omega arith));
-        map = λ j hj. on (eqb j pcp)
-            (λ same. rw (eqb-true j pcp same, getD-set-same l at queue 0 (omega arith)) good)
-            (λ other. rw (getD-set-other l at (mapWord j) queue 0 (λ e. eqb-false j pcp other (omega arith))) (range .map j hj));
-        switches = switches-kept range (alike-after l at ws 20 10 (omega arith));
-        vlan-count = vlan-count-kept range (alike-after l at ws 1 30 (omega arith));
-        vlans = vlans-kept range (alike-after l at ws 1 30 (omega arith)) (alike-after l at ws 256 144 (omega arith));
+            (λ same. rw (eqb-true j p same, own-written l p n long hp) (port-word-good n good))
+            (λ other.
+            rw (port-keeps l p n (portWord j) (λ e. omega arith) (λ e. eqb-false j p other (omega arith)) (λ e. omega arith)) (range .ports j hj));
+        operations = λ j hj. on (eqb j p)
+            (λ same. rw (eqb-true j p same, operation-written l p n long hp) (range-good (n .operation) (r .operation)))
+            (λ other.
+            rw (port-keeps l p n (portOperationWord j) (λ e. omega arith) (λ e. omega arith) (λ e. eqb-false j p other (omega arith)))
+            (range .operations j hj));
+        vlan-count = rw count (range .vlan-count);
+        vlans = λ e he.
+            let used : e < vlanCount l = omega (arith, count) in
+            let few : e < 16 = omega (arith, used, range .vlan-count) in
+            rw (port-keeps l p n (vlanWord e) (λ z. omega arith) (λ z. omega arith) (λ z. omega arith)) (range .vlans e used);
+        vlan-operations = λ e he.
+            let used : e < vlanCount l = omega (arith, count) in
+            let few : e < 16 = omega (arith, used, range .vlan-count) in
+            rw (port-keeps l p n (vlanOperationWord e) (λ z. omega arith) (λ z. omega arith) (λ z. omega arith)) (range .vlan-operations e used);
       }
 
-  pub switch-in-range : (p q on : ℕ) → p < 5 → q < 4 → on ≤ 1 → SettingsInRange (set l (queueSwitchWord p q) on)
-  switch-in-range p q state hp hq good =
-      let ws = state ∷ [] in
-      let at = queueSwitchWord p q in
+  -- ---- a word before the VLANs', but not their count
+
+  word-in-range :
+      (at v : ℕ) → at < vlanWord 0 → (at ≡ vlanCountWord → ⊥)
+      → isMapWord (mapAt (set l at v)) ≡ true → isSwitchesWord (switchesAt (set l at v)) ≡ true → isStatesWord (statesAt (set l at v)) ≡ true
+      → SettingsInRange (set l at v)
+  word-in-range at v low apart map switches states =
+      let count = getD-set-other l at vlanCountWord v 0 (λ e. apart (sym e)) in
       record {
-        bpdu = bpdu-kept range (alike-before l at ws 1 1 (omega arith));
-        ports = ports-kept range (alike-after l at ws 80 64 (omega arith));
-        map = map-kept range (alike-before l at ws 8 2 (omega arith));
-        switches = λ i j hi hj. on (eqb (queueSwitchWord i j) at)
-            (λ same. rw (eqb-true (queueSwitchWord i j) at same, getD-set-same l at state 0 (omega arith)) good)
-            (λ other. rw (getD-set-other l at (queueSwitchWord i j) state 0 (eqb-false (queueSwitchWord i j) at other)) (range .switches i j hi hj));
-        vlan-count = vlan-count-kept range (alike-after l at ws 1 30 (omega arith));
-        vlans = vlans-kept range (alike-after l at ws 1 30 (omega arith)) (alike-after l at ws 256 144 (omega arith));
+        map = map;
+        switches = switches;
+        states = states;
+        ports = λ p h. rw (getD-set-other l at (portWord p) v 0 (λ e. omega arith)) (range .ports p h);
+        operations = λ p h. rw (getD-set-other l at (portOperationWord p) v 0 (λ e. omega arith)) (range .operations p h);
+        vlan-count = rw count (range .vlan-count);
+        vlans = λ e he.
+            let used : e < vlanCount l = omega (arith, count) in
+            rw (getD-set-other l at (vlanWord e) v 0 (λ z. omega arith)) (range .vlans e used);
+        vlan-operations = λ e he.
+            let used : e < vlanCount l = omega (arith, count) in
+            rw (getD-set-other l at (vlanOperationWord e) v 0 (λ z. omega arith)) (range .vlan-operations e used);
       }
 
-  pub bpdu-in-range : (on : ℕ) → on ≤ 1 → SettingsInRange (set l bpduWord on)
-  bpdu-in-range state good =
-      let ws = state ∷ [] in
-      record {
-        bpdu = rw (getD-set-same l bpduWord state 0 (omega arith)) good;
-        ports = ports-kept range (alike-after l bpduWord ws 80 64 (omega arith));
-        map = map-kept range (alike-after l bpduWord ws 8 2 (omega arith));
-        switches = switches-kept range (alike-after l bpduWord ws 20 10 (omega arith));
-        vlan-count = vlan-count-kept range (alike-after l bpduWord ws 1 30 (omega arith));
-        vlans = vlans-kept range (alike-after l bpduWord ws 1 30 (omega arith)) (alike-after l bpduWord ws 256 144 (omega arith));
-      }
+  map-word-in-range : (v : ℕ) → isMapWord v ≡ true → SettingsInRange (set l mapWord v)
+  map-word-in-range v good =
+      word-in-range mapWord v (omega arith) (λ e. omega arith)
+      (rw (getD-set-same l mapWord v 0 (omega arith)) good)
+      (rw (getD-set-other l mapWord switchesWord v 0 (λ e. omega arith)) (range .switches))
+      (rw (getD-set-other l mapWord statesWord v 0 (λ e. omega arith)) (range .states))
+
+  pub map-in-range : (pcp queue : ℕ) → pcp < 8 → SettingsInRange (set l mapWord (withQueue (mapAt l) pcp queue))
+  map-in-range pcp queue h = map-word-in-range (withQueue (mapAt l) pcp queue) (queue-good (mapAt l) pcp queue h (range .map))
+
+  pub bpdu-in-range : (on : Bool) → SettingsInRange (set l mapWord (withBpdu (mapAt l) on))
+  bpdu-in-range state = map-word-in-range (withBpdu (mapAt l) state) (bpdu-good (mapAt l) state (range .map))
+
+  pub switch-in-range : (p q : ℕ) (on : Bool) → p < 5 → q < 4 → SettingsInRange (set l switchesWord (withSwitch (switchesAt l) p q on))
+  switch-in-range p q state hp hq =
+      let v = withSwitch (switchesAt l) p q state in
+      word-in-range switchesWord v (omega arith) (λ e. omega arith)
+      (rw (getD-set-other l switchesWord mapWord v 0 (λ e. omega arith)) (range .map))
+      (rw (getD-set-same l switchesWord v 0 (omega arith)) (switch-good (switchesAt l) p q state hp hq (range .switches)))
+      (rw (getD-set-other l switchesWord statesWord v 0 (λ e. omega arith)) (range .states))

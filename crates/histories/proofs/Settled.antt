@@ -1,26 +1,30 @@
 -- A call that writes words of settings and nothing else leaves memories that stand for the state with those settings. Assumes nothing.
-use Prim.Native.Nat.{ℕ, _+_, _≤_}
+use Prim.Native.Nat.{ℕ, _+_, _≤_, _<_}
 use mathlib.Core.Path.{_≡_, refl, _∙_}
 use mathlib.Core.List.{List}
 use mathlib.Core.Option.{Option, none}
 use native.Mathlib.Omega.{arith}
 use lib.ListN.{length}
 use lib.Seq.{sets, length-sets}
-use Rattle.slices.specs.Runs.{getD-sets-before}
+use Rattle.slices.proofs.Runs.{getD-sets-before}
 use Rattle.rules.specs.Lines.{first}
 use Rattle.rules.specs.Settings.{Settings}
+use Rattle.rules.specs.Arguments.{PortNumbers}
 use Rattle.rules.specs.Refusals.{Refusal}
 use Rattle.machine.specs.Events.{tally}
 use Rattle.machine.specs.State.{State, Call}
 use Rattle.machine.specs.SettingCalls.{silently, settle}
 use Rattle.machine.specs.Machine.{linesOf, carryOut, perform, next}
-use Rattle.layout.specs.Same.{CellsSame, RingSame}
-use Rattle.layout.proofs.Stores.{cells-then, ring-then}
+use Rattle.layout.specs.Places.{fixedWords, freeCountWord, firstFreeWord, portRecord}
+use Rattle.layout.specs.Same.{CellsSame, QueuesSame}
+use Rattle.layout.proofs.Stores.{cells-then, queues-then}
 use Rattle.lent.specs.Lengths.{cellCount}
 use Rattle.lent.specs.Answers.{doneWith, orRefused}
-use Rattle.lent.specs.Fits.{links-fit}
-use Rattle.settings.specs.CounterLaws.{counterAt, setting-keeps-counters}
-use Rattle.settings.specs.SameLaws.{ring-kept, cells-kept-after, cells-kept-before}
+use Rattle.lent.proofs.Fits.{links-fit}
+use Rattle.settings.specs.Records.{portWritten}
+use Rattle.settings.proofs.RecordLaws.{port-length, port-keeps}
+use Rattle.settings.proofs.CounterLaws.{counterAt, setting-keeps-counters, port-keeps-counters}
+use Rattle.settings.proofs.SameLaws.{queues-kept, cells-kept-after, cells-kept-before, port-keeps-queues, port-keeps-cells}
 use Rattle.histories.specs.Memories.{Memories}
 use Rattle.histories.specs.Stands.{SettingsStand, Stands}
 use Rattle.histories.specs.Runs.{onLinks}
@@ -29,47 +33,61 @@ use Rattle.histories.proofs.Answers.{follows-by}
 use Rattle.histories.proofs.Kept.{fit-same, cells-fit-same, traffic-same}
 
 -- the words of the settings and of the counters are there
-pub links-long : (m : Memories) (s : State) → Stands m s → 640 ≤ length (m .links)
+pub links-long : (m : Memories) (s : State) → Stands m s → fixedWords ≤ length (m .links)
 links-long m s S = omega (arith, links-fit (m .links) (S .links-fit) .long)
+
+pub some-cells : (m : Memories) (s : State) → Stands m s → 1 ≤ s .cellCount
+some-cells m s S = omega (arith, links-fit (m .links) (S .links-fit) .fewest, S .cell-count)
 
 -- what a write of settings leaves alone
 pub record OnlySet (l m : List ℕ) : Type 0 where
   pub long : length m ≡ length l
   pub cell-count : cellCount m ≡ cellCount l
-  pub counters : (p k : ℕ) → counterAt m p k ≡ counterAt l p k
+  pub counters : (p k : ℕ) → k < 32 → counterAt m p k ≡ counterAt l p k
   pub cells : CellsSame l m
-  pub rings : (r : ℕ) → RingSame r l m
+  pub queues : QueuesSame l m
 
 -- settings stand before the free cells' two words and behind them
 module _ (l : List ℕ) (at : ℕ) (ws : List ℕ) where
-  pub set-before : 1 ≤ at → at + length ws ≤ 31 → OnlySet l (sets l at ws)
+  pub set-before : 1 ≤ at → at + length ws ≤ freeCountWord → OnlySet l (sets l at ws)
   set-before first last =
       record {
         long = length-sets l at ws;
         cell-count = getD-sets-before l at ws 0 0 first;
-        counters = setting-keeps-counters l at ws (omega arith);
-        cells = cells-kept-after l at ws (omega arith) last;
-        rings = ring-kept l at ws (omega arith);
+        counters = λ p k hk. setting-keeps-counters l at ws (omega arith) p k;
+        cells = cells-kept-after l at ws last;
+        queues = queues-kept l at ws (omega arith);
       }
 
-  pub set-behind : 33 ≤ at → at + length ws ≤ 400 → OnlySet l (sets l at ws)
+  pub set-behind : firstFreeWord < at → at + length ws ≤ portRecord 0 → OnlySet l (sets l at ws)
   set-behind first last =
       record {
         long = length-sets l at ws;
         cell-count = getD-sets-before l at ws 0 0 (omega arith);
-        counters = setting-keeps-counters l at ws last;
-        cells = cells-kept-before l at ws (omega arith) first;
-        rings = ring-kept l at ws (omega arith);
+        counters = λ p k hk. setting-keeps-counters l at ws last p k;
+        cells = cells-kept-before l at ws first (omega arith);
+        queues = queues-kept l at ws last;
       }
+
+-- and a port's in its record and among the states
+pub set-port : (l : List ℕ) (p : ℕ) (n : PortNumbers) → p < 5 → OnlySet l (portWritten l p n)
+set-port l p n h =
+    record {
+      long = port-length l p n;
+      cell-count = port-keeps l p n 0 (λ e. omega arith) (λ e. omega arith) (λ e. omega arith);
+      counters = λ q k hk. port-keeps-counters l p n q k hk;
+      cells = port-keeps-cells l p n h;
+      queues = port-keeps-queues l p n h;
+    }
 
 pub set-then : {l m n : List ℕ} → OnlySet l m → OnlySet m n → OnlySet l n
 set-then a b =
     record {
       long = b .long ∙ a .long;
       cell-count = b .cell-count ∙ a .cell-count;
-      counters = λ p k. b .counters p k ∙ a .counters p k;
+      counters = λ p k h. b .counters p k h ∙ a .counters p k h;
       cells = cells-then (a .cells) (b .cells);
-      rings = λ r. ring-then (a .rings r) (b .rings r);
+      queues = queues-then (a .queues) (b .queues);
     }
 
 settled : (m : Memories) (s : State) → Stands m s → (buffer links : List ℕ) (new : Settings)
@@ -86,8 +104,8 @@ settled m s S buffer links new only stands =
         cell-count = only .cell-count ∙ S .cell-count;
         settings = stands;
         addresses = S .addresses;
-        counters = λ p k hp hk. only .counters p k ∙ S .counters p k hp hk;
-        traffic = traffic-same (m .links) links (only .long) (s .cellCount) (m .cells) (s .core .waiting) (only .cells) (λ r h. only .rings r) (S .traffic);
+        counters = λ p k hp hk. only .counters p k (omega arith) ∙ S .counters p k hp hk;
+        traffic = traffic-same (m .links) links (only .long) (s .cellCount) (m .cells) (s .core .waiting) (only .cells) (only .queues) (S .traffic);
       };
     }
 

@@ -19,9 +19,8 @@ use Rattle.machine.specs.State.{State, take}
 use Rattle.machine.specs.TakeOut.{leavingBytes, taken, takeStep}
 use Rattle.machine.specs.TakeOut as Machine
 use Rattle.machine.specs.Machine.{linesOf, carryOut, next}
-use Rattle.layout.specs.Places.{ringOfQueue}
 use Rattle.lent.specs.Lengths.{cellCount, linksFit, cellsFit}
-use Rattle.queues.specs.Rings.{ringOf}
+use Rattle.queues.specs.Lists.{listOf}
 use Rattle.take_out.specs.Serving.{served}
 use Rattle.take_out.specs.Frames.{frameOf, frameAt}
 use Rattle.take_out.specs.Take.{leavingAt, sentFrom, takenFrame, damagedIn, takenFrom, takeRefusals, takeBy, takeCall}
@@ -31,6 +30,7 @@ use Rattle.histories.specs.Runs.{onBuffer, run}
 use Rattle.histories.specs.Follows.{Handed, numbersOf, handedBack, Follows, CallFollows}
 use Rattle.histories.proofs.Answers.{lines-between, follows-by}
 use Rattle.histories.proofs.Departing.{departing}
+use Rattle.histories.proofs.Settled.{some-cells}
 use Rattle.histories.proofs.Serving.{on-served}
 use Rattle.histories.proofs.Sending.{can-send}
 
@@ -47,9 +47,9 @@ module _ (m : Memories) (s : State) (S : Stands m s) (p : ℕ) (buffer : List �
   undamaged : p < 5 → damagedIn (m .cells) n (m .links) p (served n p (m .links)) ≡ false
   unfolding damagedIn
   undamaged hp =
-      on-served (m .cells) (m .links) s (S .traffic) p hp
+      on-served (m .cells) (m .links) s (S .traffic) (some-cells m s S) p hp
       (λ a b. rw a)
-      (λ q i tail hq head a b. rw (a, can-send n (m .cells) (m .links) (s .core .waiting) (S .traffic) p hp (S .settings .in-range .ports p hp) q i tail hq head))
+      (λ q i tail hq head a b. rw (a, can-send n (m .cells) (m .links) (s .core .waiting) (S .traffic) p hp (S .settings .in-range .operations p hp) q i tail hq head))
 
   same-lines : first (takeRefusals (m .cells) (m .links) p buffer (served n p (m .links))) ≡ first (takeLines (record { port = p; buffer = length buffer }))
   unfolding takeRefusals takeLines first
@@ -61,24 +61,24 @@ module _ (m : Memories) (s : State) (S : Stands m s) (p : ℕ) (buffer : List �
 
   -- ---- what is done
 
-  same-leaving : (q i : ℕ) → leavingAt (m .cells) (m .links) p q i ≡ leavingBytes (s .core .settings) p (frameAt (m .cells) (m .links) i q)
+  same-leaving : (q i : ℕ) → leavingAt n (m .cells) (m .links) p q i ≡ leavingBytes (s .core .settings) p (frameAt n (m .cells) (m .links) i q)
   unfolding leavingAt
   same-leaving q i = rw (S .settings .says)
 
-  frame-sent : p < 5 → (q i : ℕ) (tail : List ℕ) → q < 4 → ringOf n (m .links) (ringOfQueue p q) ≡ i ∷ tail
-      → Follows (onBuffer m (takenFrame (m .cells) n (m .links) p buffer q i)) buffer s (taken s p (some (frameAt (m .cells) (m .links) i q)))
+  frame-sent : p < 5 → (q i : ℕ) (tail : List ℕ) → q < 4 → listOf n (m .links) p q ≡ i ∷ tail
+      → Follows (onBuffer m (takenFrame (m .cells) n (m .links) p buffer q i)) buffer s (taken s p (some (frameAt n (m .cells) (m .links) i q)))
   unfolding takenFrame sentFrom taken numbersOf handedBack next tally frameOf
   frame-sent hp q i tail hq head =
       record {
         same-answer = rw (same-leaving q i);
         same-bytes = rw (same-leaving q i);
-        stands-kept = departing m s S p q i hp hq tail head (sends p (frameAt (m .cells) (m .links) i q)) refl;
+        stands-kept = departing m s S p q i hp hq tail head (sends p (frameAt n (m .cells) (m .links) i q)) refl;
       }
 
   take-done : p < 5 → Follows (onBuffer m (takenFrom (m .cells) n (m .links) p buffer (served n p (m .links)))) buffer s (taken s p (Machine.served s p))
   unfolding takenFrom taken numbersOf handedBack next tally
   take-done hp =
-      on-served (m .cells) (m .links) s (S .traffic) p hp
+      on-served (m .cells) (m .links) s (S .traffic) (some-cells m s S) p hp
       (λ a b. rw (a, b) (record { same-answer = refl; same-bytes = refl; stands-kept = S }))
       (λ q i tail hq head a b. rw (a, b) (frame-sent hp q i tail hq head))
 

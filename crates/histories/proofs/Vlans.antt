@@ -20,11 +20,12 @@ use Rattle.machine.specs.SettingCalls.{settle, withEntry, withoutEntry, noEntry
 use Rattle.machine.specs.Machine.{linesOf, carryOut}
 use Rattle.machine.specs.Demands.{vids}
 use Rattle.machine.proofs.Settings.{distinct-entry, distinct-cleared}
+use Rattle.layout.specs.Places.{fixedWords}
 use Rattle.settings.specs.Table.{vlanCount, vidAt, foundVlan}
 use Rattle.settings.specs.SettingsOf.{vlansOf, settingsOf}
-use Rattle.settings.specs.TableLaws.{vlans-length, vlans-at}
-use Rattle.settings.specs.FindLaws.{entry-vid, found-there, found-nowhere}
-use Rattle.settings.specs.SettingsLaws.{vlan-replaced, vlan-added, vlan-cleared}
+use Rattle.settings.proofs.TableLaws.{vlans-length, vlans-at}
+use Rattle.settings.proofs.FindLaws.{entry-vid, found-there, found-nowhere}
+use Rattle.settings.proofs.SettingsLaws.{vlan-replaced, vlan-added, vlan-cleared}
 use Rattle.setting_calls.specs.Vlans.{there, vlanWritten, vlanRefusals, vlanCall, vlanErased, clearVlanRefusals, clearVlanCall}
 use Rattle.setting_calls.specs.Vlans as Calls
 use Rattle.histories.specs.Stands.{SettingsInRange, SettingsStand}
@@ -38,7 +39,7 @@ use Rattle.histories.proofs.VlanWrites.{replaced-alone, replaced-in-ran
 
 -- ---- the table written, in memory that is in range and has one entry a VID
 
-module _ (l : List ℕ) (long : 640 ≤ length l) (range : SettingsInRange l) (once : Distinct (vids (vlansOf l))) where
+module _ (l : List ℕ) (long : fixedWords ≤ length l) (range : SettingsInRange l) (once : Distinct (vids (vlansOf l))) where
   vid-there : (e : ℕ) → e < vlanCount l → vidOf (vlansOf l) e ≡ vidAt l e
   vid-there e used = ap (λ (v : Vlan). v .vid) (vlans-at l e absentVlan (range .vlan-count) used) ∙ entry-vid l e
 
@@ -61,7 +62,7 @@ module _ (l : List ℕ) (long : 640 ≤ length l) (range : SettingsInRange l) (o
         rw f (
           replaced-alone l long range e n used,
           record {
-            says = vlan-replaced l e n long (range .vlan-count) used ∙ ap (λ (vs : List Vlan). withVlans vs (settingsOf l)) same;
+            says = vlan-replaced l e n long good (range .vlan-count) used ∙ ap (λ (vs : List Vlan). withVlans vs (settingsOf l)) same;
             in-range = replaced-in-range l long range e n used good;
             once = distinct;
           },
@@ -71,7 +72,7 @@ module _ (l : List ℕ) (long : 640 ≤ length l) (range : SettingsInRange l) (o
         rw f (
           added-alone l long range n (few missing),
           record {
-            says = vlan-added l n long (few missing) ∙ ap (λ (vs : List Vlan). withVlans vs (settingsOf l)) (added-is (vlanEntry n) (vlansOf l) missing);
+            says = vlan-added l n long good (few missing) ∙ ap (λ (vs : List Vlan). withVlans vs (settingsOf l)) (added-is (vlanEntry n) (vlansOf l) missing);
             in-range = added-in-range l long range n (few missing) good;
             once = distinct;
           },

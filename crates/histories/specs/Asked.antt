@@ -1,11 +1,13 @@
 -- The code's call as the machine's: what `src/lib.rt` asks. Assumes nothing: these are definitions.
 use Prim.Native.Nat.{ℕ}
 use mathlib.Core.List.{List}
-use Rattle.machine.specs.State.{Call, frameIn, take, age, counter, port, vlan, clearVlan, static, remove, map, queueSwitch, drain, bpdu}
+use Rattle.machine.specs.State.{Call, frameIn, take, age, counter, port, vlan, clearVlan, static, remove, map}
+use Rattle.machine.specs.State.{queueSwitch, drain, bpdu}
 use Rattle.lent.specs.declared.Answer.{Answer}
-use Rattle.settings.specs.Records.{portIs, vlanIs}
+use Rattle.packed.specs.Ports.{portIs, vlanIs}
 use Rattle.histories.specs.declared.Call as Code
-use Rattle.histories.specs.declared.Call.the-variants.{FrameIn, Take, Age, Counter, Port, Vlan, ClearVlan, Static, Remove, Map, QueueSwitch, Drain, Bpdu}
+use Rattle.histories.specs.declared.Call.the-variants.{FrameIn, Take, Age, Counter, Port, Vlan, ClearVlan, Static}
+use Rattle.histories.specs.declared.Call.the-variants.{Remove, Map, QueueSwitch, Drain, Bpdu}
 use Rattle.histories.specs.Memories.{Memories, Done}
 
 abbrev pub memories : List ℕ → List ℕ → List ℕ → Memories

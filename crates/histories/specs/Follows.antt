@@ -1,12 +1,13 @@
--- A call over memory follows the machine: the same answer, the same bytes handed back, and memories that stand for the machine's next
--- state. Assumes nothing: these are definitions.
+-- A call over memory follows the machine: the same answer, the same bytes handed back, and memories that stand for the
+-- machine's next state. Assumes nothing: these are definitions.
 use Prim.Native.Nat.{ℕ}
 use mathlib.Core.Path.{_≡_}
 use mathlib.Core.List.{List, []}
 use lib.ListN.{length}
 use lib.Seq.{sets}
 use Rattle.rules.specs.Tags.{Bytes}
-use Rattle.machine.specs.State.{State, Call, frameIn, take, age, counter, port, vlan, clearVlan, static, remove, map, queueSwitch, drain, bpdu, Answer, refused, done, Step}
+use Rattle.machine.specs.State.{State, Call, frameIn, take, age, counter, port, vlan, clearVlan, static, remove, map}
+use Rattle.machine.specs.State.{queueSwitch, drain, bpdu, Answer, refused, done, Step}
 use Rattle.machine.specs.Machine.{perform, next}
 use Rattle.lent.specs.declared.Answer as Lent
 use Rattle.lent.specs.Answers.{refusedBy, doneWith}
@@ -14,7 +15,8 @@ use Rattle.histories.specs.Memories.{Memories, Done}
 use Rattle.histories.specs.Stands.{Stands}
 use Rattle.histories.specs.Runs.{run}
 
--- What a driver can hand over: a frame is of bytes, and the length that a take names is that of the buffer it lends. The other numbers are any.
+-- What a driver can hand over: a frame is of bytes, and the length that a take names is that of the buffer it lends.
+-- The other numbers are any.
 unfoldable pub Handed : Call → List ℕ → Type 0
 Handed (frameIn c) buffer = Bytes (c .packet .bytes)
 Handed (take c) buffer = c .buffer ≡ length buffer
@@ -47,4 +49,6 @@ pub record Follows (d : Done) (buffer : List ℕ) (s : State) (step : Step) : Ty
 
 -- of one call: in every memory that stands for a state
 abbrev pub CallFollows : Call → Type 0
-CallFollows c = (m : Memories) (s : State) → Stands m s → (buffer : List ℕ) → Handed c buffer → Follows (run m c buffer) buffer s (perform s c)
+CallFollows c =
+    (m : Memories) (s : State) → Stands m s → (buffer : List ℕ) → Handed c buffer
+    → Follows (run m c buffer) buffer s (perform s c)

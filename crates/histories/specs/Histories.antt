@@ -1,5 +1,5 @@
--- Histories on memory: a fresh call, then a driver's calls one after another, any of the fourteen, fresh calls and calls on memory of
--- another length among them. Assumes nothing: these are definitions.
+-- Histories on memory: a fresh call, then a driver's calls one after another, any of the fourteen, fresh calls and
+-- calls on memory of another length among them. Assumes nothing: these are definitions.
 use Prim.Native.Nat.{ℕ}
 use mathlib.Core.Path.{_≡_}
 use mathlib.Core.Bool.{Bool, false}
@@ -16,9 +16,9 @@ use Rattle.histories.specs.Runs.{onAll, run}
 use Rattle.histories.specs.Lines.{fitsFor}
 use Rattle.histories.specs.Follows.{Handed, numbersOf, handedBack}
 
--- A call as a driver makes it. `begin`: the fresh call, on memories that it lends, whatever they hold. `call`: one of the thirteen on the
--- switch's memories, with the buffer that it lends; only take writes there. `misfit`: one of the thirteen on memories of which one has not
--- the length that fits.
+-- A call as a driver makes it. `begin`: the fresh call, on memories that it lends, whatever they hold. `call`: one of
+-- the thirteen on the switch's memories, with the buffer that it lends; only take writes there. `misfit`: one of the
+-- thirteen on memories of which one has not the length that fits.
 pub data Made : Type 0 where
   begin : Memories → Made
   call : Call → List ℕ → Made

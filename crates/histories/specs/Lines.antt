@@ -1,9 +1,11 @@
--- The refusal lines of each call over lent memories, by one list; and the lengths that each call asks. Assumes nothing: these are definitions.
+-- The refusal lines of each call over lent memories, by one list; and the lengths that each call asks. Assumes nothing:
+-- these are definitions.
 use Prim.Native.Nat.{ℕ}
 use mathlib.Core.Bool.{Bool, _&&_}
 use mathlib.Core.List.{List}
 use Rattle.rules.specs.Refusals.{Lines}
-use Rattle.machine.specs.State.{Call, frameIn, take, age, counter, port, vlan, clearVlan, static, remove, map, queueSwitch, drain, bpdu}
+use Rattle.machine.specs.State.{Call, frameIn, take, age, counter, port, vlan, clearVlan, static, remove, map}
+use Rattle.machine.specs.State.{queueSwitch, drain, bpdu}
 use Rattle.lent.specs.Lengths.{cellCount, linksFit, cellsFit, addressesFit}
 use Rattle.frame_in.specs.Call.{frameInRefusals}
 use Rattle.take_out.specs.Serving.{served}
@@ -16,7 +18,8 @@ use Rattle.histories.specs.Memories.{Memories}
 
 unfoldable pub linesOn : Memories → Call → List ℕ → Lines
 linesOn m (frameIn c) buffer = frameInRefusals (m .cells) (m .links) (m .addresses) (c .port) (c .packet .bytes)
-linesOn m (take c) buffer = takeRefusals (m .cells) (m .links) (c .port) buffer (served (cellCount (m .links)) (c .port) (m .links))
+linesOn m (take c) buffer =
+    takeRefusals (m .cells) (m .links) (c .port) buffer (served (cellCount (m .links)) (c .port) (m .links))
 linesOn m age buffer = ageRefusals (m .addresses)
 linesOn m (counter c) buffer = counterRefusals (m .links) (c .port) (c .number)
 linesOn m (port c) buffer = portRefusals (m .links) (c .port) (c .new)

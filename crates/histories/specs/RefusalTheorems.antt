@@ -21,7 +21,8 @@ unchanged r m buffer = record { answer = refusedBy r; buffer = buffer; memories 
 
 pub record RefusedExactly (m : Memories) (c : Call) (buffer : List ℕ) : Type 0 where
   pub in-order : InOrder (linesOn m c buffer)
-  pub refused-exactly : (r : Refusal) → (run m c buffer .answer .refusal ≡ refusalNumber r) ↔ FirstOf (linesOn m c buffer) r
+  pub refused-exactly : (r : Refusal)
+      → (run m c buffer .answer .refusal ≡ refusalNumber r) ↔ FirstOf (linesOn m c buffer) r
   pub nothing-else : (r : Refusal) → FirstOf (linesOn m c buffer) r → run m c buffer ≡ unchanged r m buffer
   pub done-exactly : (run m c buffer .answer .refusal ≡ 0) ↔ Each Fails (linesOn m c buffer)
   -- "a lent memory has no length listed above, or not the one that the fresh call got": 1 comes before every other

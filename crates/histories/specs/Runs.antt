@@ -1,8 +1,9 @@
--- The machine's calls as the promises of the public calls over lent memories: each line cites the very function that stands in the
--- `ensures` of the Rattle function, as `src/lib.rt` shows. Assumes nothing: these are definitions.
+-- The machine's calls as the promises of the public calls over lent memories: each line cites the very function that
+-- stands in the `ensures` of the Rattle function, as `src/lib.rt` shows. Assumes nothing: these are definitions.
 use Prim.Native.Nat.{ℕ}
 use mathlib.Core.List.{List}
-use Rattle.machine.specs.State.{Call, frameIn, take, age, counter, port, vlan, clearVlan, static, remove, map, queueSwitch, drain, bpdu}
+use Rattle.machine.specs.State.{Call, frameIn, take, age, counter, port, vlan, clearVlan, static, remove, map}
+use Rattle.machine.specs.State.{queueSwitch, drain, bpdu}
 use Rattle.lent.specs.declared.Answer.{Answer}
 use Rattle.frame_in.specs.Call.{frameInCall}
 use Rattle.take_out.specs.Take.{takeCall}
@@ -16,19 +17,35 @@ use Rattle.histories.specs.Memories.{Memories, Done}
 
 abbrev pub onAll : List ℕ → Answer × (List ℕ × List ℕ × List ℕ) → Done
 onAll buffer r =
-    record { answer = r .0; buffer = buffer; memories = record { cells = r .1 .0; links = r .1 .1; addresses = r .1 .2 } }
+    record {
+      answer = r .0;
+      buffer = buffer;
+      memories = record { cells = r .1 .0; links = r .1 .1; addresses = r .1 .2 };
+    }
 
 abbrev pub onBuffer : Memories → Answer × (List ℕ × List ℕ) → Done
 onBuffer m r =
-    record { answer = r .0; buffer = r .1 .1; memories = record { cells = m .cells; links = r .1 .0; addresses = m .addresses } }
+    record {
+      answer = r .0;
+      buffer = r .1 .1;
+      memories = record { cells = m .cells; links = r .1 .0; addresses = m .addresses };
+    }
 
 abbrev pub onLinks : Memories → List ℕ → Answer × List ℕ → Done
 onLinks m buffer r =
-    record { answer = r .0; buffer = buffer; memories = record { cells = m .cells; links = r .1; addresses = m .addresses } }
+    record {
+      answer = r .0;
+      buffer = buffer;
+      memories = record { cells = m .cells; links = r .1; addresses = m .addresses };
+    }
 
 abbrev pub onAddresses : Memories → List ℕ → Answer × List ℕ → Done
 onAddresses m buffer r =
-    record { answer = r .0; buffer = buffer; memories = record { cells = m .cells; links = m .links; addresses = r .1 } }
+    record {
+      answer = r .0;
+      buffer = buffer;
+      memories = record { cells = m .cells; links = m .links; addresses = r .1 };
+    }
 
 -- ---- a call: only take writes to the buffer, and the length that it is handed is the buffer's
 

@@ -1,4 +1,5 @@
--- When lent memories stand for a state of the machine: part by part, and all of them. Assumes nothing: these are definitions.
+-- When lent memories stand for a state of the machine: part by part, and all of them. Assumes nothing: these are
+-- definitions.
 use Prim.Native.Nat.{ℕ, _≤_, _<_}
 use mathlib.Core.Path.{_≡_}
 use mathlib.Core.Bool.{true}
@@ -8,28 +9,34 @@ use Rattle.rules.specs.Choice.{Distinct}
 use Rattle.rules.specs.Settings.{Settings}
 use Rattle.rules.specs.Addresses.{Table}
 use Rattle.rules.specs.Numbers.{lastCounter}
-use Rattle.rules.specs.Arguments.{portInRange, vlanInRange}
 use Rattle.machine.specs.Events.{Counts}
 use Rattle.machine.specs.State.{State}
 use Rattle.machine.specs.Demands.{vids}
-use Rattle.layout.specs.Places.{bpduWord, mapWord, queueSwitchWord}
+use Rattle.layout.specs.Places.{portWord, vlanOperationWord}
 use Rattle.lent.specs.Lengths.{cellCount, linksFit, cellsFit, addressesFit}
-use Rattle.settings.specs.Records.{portAt, vlanAt}
-use Rattle.settings.specs.Table.{vlanCount}
-use Rattle.settings.specs.SettingsOf.{settingsOf}
-use Rattle.settings.specs.CounterLaws.{counterAt}
+use Rattle.packed.specs.Operations.{isOperationWord}
+use Rattle.packed.specs.Ports.{isVidWord}
+use Rattle.packed.specs.States.{isStatesWord}
+use Rattle.packed.specs.Switches.{isSwitchesWord}
+use Rattle.packed.specs.Maps.{isMapWord}
+use Rattle.settings.specs.Records.{statesAt, portOperationAt}
+use Rattle.settings.specs.Table.{vlanCount, entryAt}
+use Rattle.settings.specs.SettingsOf.{mapAt, switchesAt, settingsOf}
+use Rattle.settings.specs.Counters.{counterAt}
 use Rattle.addresses.specs.Numbers.{tableOf, allInRange}
 use Rattle.standing.specs.Traffic.{Traffic}
 use Rattle.histories.specs.Memories.{Memories}
 
--- each setting's words are in the layout paper's ranges
+-- the settings' words are in the layout paper's ranges
 pub record SettingsInRange (links : List ℕ) : Type 0 where
-  pub bpdu : getD links bpduWord 0 ≤ 1
-  pub ports : (p : ℕ) → p < 5 → portInRange (portAt links p) ≡ true
-  pub map : (pcp : ℕ) → pcp < 8 → getD links (mapWord pcp) 0 ≤ 3
-  pub switches : (p q : ℕ) → p < 5 → q < 4 → getD links (queueSwitchWord p q) 0 ≤ 1
+  pub map : isMapWord (mapAt links) ≡ true
+  pub switches : isSwitchesWord (switchesAt links) ≡ true
+  pub states : isStatesWord (statesAt links) ≡ true
+  pub ports : (p : ℕ) → p < 5 → isVidWord (getD links (portWord p) 0) ≡ true
+  pub operations : (p : ℕ) → p < 5 → isOperationWord (portOperationAt links p) ≡ true
   pub vlan-count : vlanCount links ≤ 16
-  pub vlans : (e : ℕ) → e < vlanCount links → vlanInRange (vlanAt links e) ≡ true
+  pub vlans : (e : ℕ) → e < vlanCount links → isVidWord (entryAt links e) ≡ true
+  pub vlan-operations : (e : ℕ) → e < vlanCount links → isOperationWord (getD links (vlanOperationWord e) 0) ≡ true
 
 pub record SettingsStand (links : List ℕ) (s : Settings) : Type 0 where
   pub says : settingsOf links ≡ s

@@ -1,4 +1,5 @@
--- What makes the promises mean the rules: memory stands for the machine, over every history. `proofs/Theorems.antt` proves it.
+-- What makes the promises mean the rules: memory stands for the machine, over every history. `proofs/Theorems.antt`
+-- proves it.
 -- Assumes nothing: these are definitions.
 use Prim.Native.Nat.{ℕ}
 use mathlib.Core.Path.{_≡_}
@@ -27,17 +28,20 @@ pub record FreshTheorems (x : Memories) : Type 0 where
   pub fresh-refused : fits x ≡ false → begun x ≡ unchanged memoryLength x []
 
 -- any call with any arguments, on memories that stand for a state
-pub record CallTheorems (m : Memories) (s : State) (stands : Stands m s) (c : Call) (buffer : List ℕ) (handed : Handed c buffer) : Type 0 where
+pub record CallTheorems (m : Memories) (s : State) (stands : Stands m s) (c : Call) (buffer : List ℕ)
+    (handed : Handed c buffer) : Type 0 where
   pub same-answer : run m c buffer .answer ≡ numbersOf (perform s c .answer)
   -- Take's written bytes are the machine's, and the rest of the buffer keeps its bytes; no other call writes to it.
   pub same-bytes : run m c buffer .buffer ≡ sets buffer 0 (handedBack (perform s c .answer))
   pub stands-kept : Stands (run m c buffer .memories) (next s (perform s c))
-  -- Refusals 1 and 10 are of lent memory alone: the very memories of the switch's fresh call, touched only by our calls, never bring them.
+  -- Refusals 1 and 10 are of lent memory alone: the very memories of the switch's fresh call, touched only by our
+  -- calls, never bring them.
   pub never-one : run m c buffer .answer .refusal ≡ 1 → ⊥
   pub never-ten : run m c buffer .answer .refusal ≡ 10 → ⊥
 
 -- a fresh call that is done, and any list of the fourteen calls after it
-pub record HistoryTheorems (x : Memories) (fit : fits x ≡ true) (made : List Made) (handed : AllHanded made) : Type 0 where
+pub record HistoryTheorems (x : Memories) (fit : fits x
+    ≡ true) (made : List Made) (handed : AllHanded made) : Type 0 where
   -- What the driver sees of each call is what the machine says, and the memories stand for the machine's state.
   pub histories : seen (begun x .memories) made ≡ expected (fresh (cellsLent (x .cells))) made
   pub stands : Stands (memoriesAfter (begun x .memories) made) (life (fresh (cellsLent (x .cells))) (hostCalls made))

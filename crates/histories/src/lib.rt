@@ -1,8 +1,8 @@
-// A driver's call, whichever it is, by the C function of its name. Its promise is `run`: so the functions that a history runs are
-// the very promises of the C functions.
+// A driver's call, whichever it is, by the C function of its name. Its promise is `run`: so the functions that a
+// history runs are the very promises of the C functions.
 use lent::Answer;
-use settings::port::PortSettings;
-use settings::vlan::VlanSettings;
+use packed::port::PortSettings;
+use packed::vlan::VlanSettings;
 ghost use mathlib.Core.Path.{_≡_};
 ghost use mathlib.Core.List.{[]};
 ghost use Prim.Native.Nat.{_<_};
@@ -30,7 +30,8 @@ pub enum Call {
 
 // The fresh call, with which a history begins.
 pub fn begin(cells: &[u8], links: &mut [u32], addresses: &mut [u64]) -> Answer
-    ensures { λ r. ⌜ cameTo r [] (memories (now (cells .exit)) (now (links .exit)) (now (addresses .exit))) ≡ onAll [] (freshCall (now (cells .entry)) (now (links .entry)) (now (addresses .entry))) ⌝ }
+    ensures { λ r. ⌜ cameTo r [] (memories (now (cells .exit)) (now (links .exit)) (now (addresses .exit)))
+        ≡ onAll [] (freshCall (now (cells .entry)) (now (links .entry)) (now (addresses .entry))) ⌝ }
 {
     gufhrandi::gufhrandi_fresh(cells, links, addresses)
 }
@@ -44,7 +45,10 @@ pub fn perform(
     frame: &[u8],
     call: Call,
 ) -> Answer
-    ensures { λ r. ⌜ cameTo r (now (buffer .exit)) (memories (now (cells .exit)) (now (links .exit)) (now (addresses .exit))) ≡ run (memories (now (cells .entry)) (now (links .entry)) (now (addresses .entry))) (asked (now (frame .entry)) (length (now (buffer .entry))) call) (now (buffer .entry)) ⌝ }
+    ensures { λ r. ⌜ cameTo r (now (buffer .exit))
+        (memories (now (cells .exit)) (now (links .exit)) (now (addresses .exit)))
+        ≡ run (memories (now (cells .entry)) (now (links .entry)) (now (addresses .entry)))
+        (asked (now (frame .entry)) (length (now (buffer .entry))) call) (now (buffer .entry)) ⌝ }
 {
     match call {
         Call::FrameIn(port) => gufhrandi::gufhrandi_frame_in(cells, links, addresses, port, frame),
@@ -105,7 +109,8 @@ fn is_byte(value: u8)
     ensures { λ _. ⌜ value < 256 ⌝ }
 {}
 
-// What a driver hands over as a frame is of bytes, whatever it is: so each call of `perform` is one that a history may hold.
+// What a driver hands over as a frame is of bytes, whatever it is: so each call of `perform` is one that a history may
+// hold.
 pub fn is_bytes(frame: &[u8])
     ensures { λ _. ⌜ Bytes (now (frame .entry)) ⌝ }
 {

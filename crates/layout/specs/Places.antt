@@ -3,125 +3,95 @@ use Prim.Native.Nat.{ℕ, _+_, _*_}
 
 -- ---- lengths, for n cells
 
+-- the part before the cells' records
+abbrev pub fixedWords : ℕ
+fixedWords = 1024
+
+-- a cell's record
+abbrev pub cellWords : ℕ
+cellWords = 20
+
 abbrev pub linkWords : ℕ → ℕ
-linkWords n = 640 + 24 * n
+linkWords n = fixedWords + cellWords * n
 
 abbrev pub cellBytes : ℕ → ℕ
 cellBytes n = 80 * n
 
--- ---- the fixed part
+-- ---- the fixed part: words of the whole switch
 
 abbrev pub cellCountWord : ℕ
 cellCountWord = 0
 
-abbrev pub bpduWord : ℕ
-bpduWord = 1
+-- the queue map and BPDU handling
+abbrev pub mapWord : ℕ
+mapWord = 1
 
-abbrev pub mapWord : ℕ → ℕ
-mapWord pcp = 2 + pcp
-
-abbrev pub queueSwitchWord : ℕ → ℕ → ℕ
-queueSwitchWord port queue = 10 + 4 * port + queue
-
-abbrev pub vlanCountWord : ℕ
-vlanCountWord = 30
+-- the queue switches
+abbrev pub switchesWord : ℕ
+switchesWord = 2
 
 abbrev pub freeCountWord : ℕ
-freeCountWord = 31
+freeCountWord = 3
 
 abbrev pub firstFreeWord : ℕ
-firstFreeWord = 32
+firstFreeWord = 4
 
-abbrev pub portWord : ℕ → ℕ
-portWord port = 64 + 16 * port
+abbrev pub vlanCountWord : ℕ
+vlanCountWord = 5
+
+-- the five states
+abbrev pub statesWord : ℕ
+statesWord = 8
+
+-- ---- a VLAN entry: its own word and its operation's
 
 abbrev pub vlanWord : ℕ → ℕ
-vlanWord v = 144 + 16 * v
+vlanWord v = 32 + 2 * v
+
+abbrev pub vlanOperationWord : ℕ → ℕ
+vlanOperationWord v = 33 + 2 * v
+
+-- ---- a port's record: its counters, its own word and its operation's, its queues
+
+abbrev pub portRecord : ℕ → ℕ
+portRecord port = 384 + 128 * port
+
+-- the counters' 32 words, the port's and its operation's
+abbrev pub recordWords : ℕ
+recordWords = 34
 
 abbrev pub counterWord : ℕ → ℕ → ℕ
-counterWord port k = 400 + 32 * port + k
+counterWord port k = portRecord port + k
 
--- the ring of a port's queue, 0 to 19
-abbrev pub ringOfQueue : ℕ → ℕ → ℕ
-ringOfQueue port queue = 4 * port + queue
+abbrev pub portWord : ℕ → ℕ
+portWord port = 416 + 128 * port
 
-abbrev pub oldestWord : ℕ → ℕ
-oldestWord r = 560 + 2 * r
+abbrev pub portOperationWord : ℕ → ℕ
+portOperationWord port = 417 + 128 * port
 
-abbrev pub countWord : ℕ → ℕ
-countWord r = 561 + 2 * r
+-- bit q: queue q of the port waits
+abbrev pub waitingWord : ℕ → ℕ
+waitingWord port = 418 + 128 * port
 
--- ---- a port's record, from its word on
+-- the first cells of a queue's oldest and youngest frame
+abbrev pub oldestWord : ℕ → ℕ → ℕ
+oldestWord port queue = 424 + 128 * port + 2 * queue
 
-abbrev pub stateField : ℕ
-stateField = 0
-
-abbrev pub assignmentField : ℕ
-assignmentField = 1
-
-abbrev pub defaultVidField : ℕ
-defaultVidField = 2
-
-abbrev pub defaultPcpField : ℕ
-defaultPcpField = 3
-
-abbrev pub defaultDeiField : ℕ
-defaultDeiField = 4
-
-abbrev pub flagsField : ℕ
-flagsField = 5
-
-abbrev pub portOperationField : ℕ
-portOperationField = 6
-
--- ---- a VLAN entry, from its word on
-
-abbrev pub vidField : ℕ
-vidField = 0
-
-abbrev pub membersField : ℕ
-membersField = 1
-
-abbrev pub gidField : ℕ
-gidField = 2
-
-abbrev pub vlanOperationField : ℕ
-vlanOperationField = 3
-
--- ---- an operation, from its first word on
-
-abbrev pub kindField : ℕ
-kindField = 0
-
-abbrev pub typeField : ℕ
-typeField = 1
-
-abbrev pub vidSourceField : ℕ
-vidSourceField = 2
-
-abbrev pub pcpSourceField : ℕ
-pcpSourceField = 3
-
-abbrev pub operationVidField : ℕ
-operationVidField = 4
-
-abbrev pub operationPcpField : ℕ
-operationPcpField = 5
-
-abbrev pub operationDeiField : ℕ
-operationDeiField = 6
+abbrev pub youngestWord : ℕ → ℕ → ℕ
+youngestWord port queue = 425 + 128 * port + 2 * queue
 
 -- ---- a cell's record
 
 abbrev pub nextWord : ℕ → ℕ
-nextWord c = 640 + 24 * c
+nextWord c = 1024 + cellWords * c
 
-abbrev pub sizeWord : ℕ → ℕ
-sizeWord c = 641 + 24 * c
+abbrev pub frameWord : ℕ → ℕ
+frameWord c = 1025 + cellWords * c
 
-abbrev pub portsWord : ℕ → ℕ
-portsWord c = 642 + 24 * c
+-- a frame word: the ports where the frame still waits, and its size in cells by this
+abbrev pub sizeUnit : ℕ
+sizeUnit = 32
 
--- place i of ring r
-abbrev pub ringPlace : ℕ → ℕ → ℕ
-ringPlace r i = 644 + r + 24 * i
+-- the first cell of the frame behind it at a port
+abbrev pub behindWord : ℕ → ℕ → ℕ
+behindWord port c = 1026 + port + cellWords * c

@@ -1,49 +1,62 @@
-// The layout paper, "Link memory": where each field stands, as constants. A record's or a table's place i is its first word and i of its strides.
+// The layout paper, "Link memory": where each field stands, as constants. A record's or a table's place i is its first
+// word and i of its strides.
 ghost use mathlib.Core.Path.{_≡_};
 ghost use Prim.Native.Nat.{_≤_, _<_};
 ghost use Rattle.layout.specs.Cells.{clamped};
 
+pub const FIXED_WORDS: usize = 1024;
+
 pub const CELL_COUNT: usize = 0;
 
-pub const BPDU: usize = 1;
+pub const MAP: usize = 1;
 
-pub const MAP: usize = 2;
+pub const SWITCHES: usize = 2;
 
-pub const QUEUE_SWITCH: usize = 10;
+pub const FREE_COUNT: usize = 3;
 
-pub const VLAN_COUNT: usize = 30;
+pub const FIRST_FREE: usize = 4;
 
-pub const FREE_COUNT: usize = 31;
+pub const VLAN_COUNT: usize = 5;
 
-pub const FIRST_FREE: usize = 32;
+pub const STATES: usize = 8;
 
-pub const PORT: usize = 64;
+pub const VLAN: usize = 32;
 
-pub const PORT_STRIDE: usize = 16;
+pub const VLAN_OPERATION: usize = 33;
 
-pub const VLAN: usize = 144;
+pub const VLAN_STRIDE: usize = 2;
 
-pub const VLAN_STRIDE: usize = 16;
+// A port's record: its counters, its own word and its operation's, the word of its queues that wait, each queue's
+// oldest and youngest frame.
+pub const COUNTER: usize = 384;
 
-pub const COUNTER: usize = 400;
+pub const PORT: usize = 416;
 
-pub const COUNTER_STRIDE: usize = 32;
+pub const PORT_OPERATION: usize = 417;
 
-pub const OLDEST: usize = 560;
+pub const WAITING: usize = 418;
 
-pub const COUNT: usize = 561;
+pub const OLDEST: usize = 424;
 
-pub const RING_STRIDE: usize = 2;
+pub const YOUNGEST: usize = 425;
 
-pub const NEXT: usize = 640;
+pub const QUEUE_STRIDE: usize = 2;
 
-pub const SIZE: usize = 641;
+pub const PORT_STRIDE: usize = 128;
 
-pub const PORTS: usize = 642;
+pub const NEXT: usize = 1024;
 
-pub const RING_PLACE: usize = 644;
+pub const FRAME: usize = 1025;
 
-pub const CELL_STRIDE: usize = 24;
+// A frame word is its ports and its size in cells by this.
+pub const SIZE_UNIT: u32 = 32;
+
+// One in range is below this: a frame has 52 cells at most.
+pub const FRAME_END: u32 = 53 * SIZE_UNIT;
+
+pub const BEHIND: usize = 1026;
+
+pub const CELL_STRIDE: usize = 20;
 
 // "Cell memory": a cell's bytes, those of the stored header before a frame, and those of the frame in its first cell.
 pub const CELL_SIZE: usize = 80;

@@ -1,2 +1,3 @@
 pub mod Headers
 pub mod Retagged
+pub mod Plain

@@ -1,28 +1,30 @@
 -- A leaving frame written in four runs: addresses, tags, payload and zeros. Assumes nothing.
-use Prim.Native.Nat.{ℕ, _+_, _*_, _-_, _≤_}
+use Prim.Native.Nat.{ℕ, _+_, _*_, _-_, _≤_, _<_}
 use mathlib.Core.Path.{_≡_, sym, ap, ap₂, _∙_}
 use mathlib.Core.Bool.{true}
 use mathlib.Core.List.{List, _++_}
 use native.Mathlib.Omega.{arith}
 use lib.ListN.{length, take, drop, replicate, length-append, length-drop, length-replicate}
 use lib.Seq.{sets, length-take-le, getD-take}
-use Rattle.rules.specs.Tags.{Tag, headerOf, tagsOf, tagAt, twoBytesAt, addresses, payload, stackBytes}
+use Rattle.rules.specs.Tags.{Tag, tagsOf, tagAt, twoBytesAt, addresses, payload, stackBytes}
 use Rattle.rules.specs.Operations.{Operation, padded, retagged}
-use Rattle.rules.specs.Arguments.{flag, operationOf}
 use Rattle.rules.proofs.Choice.{on}
 use Rattle.rules.proofs.Leaving.{stack-grows}
-use Rattle.slices.specs.Runs.{sets-append}
+use Rattle.slices.proofs.Runs.{sets-append}
 use Rattle.tags.specs.declared.stack.Stack.{Stack}
 use Rattle.tags.specs.Numbers.{stackIs}
-use Rattle.tags.specs.Stacks.{stack-length}
-use Rattle.cells.specs.Chains.{follow, allBelow}
+use Rattle.tags.proofs.Stacks.{stack-length}
+use Rattle.cells.specs.Chains.{follow}
 use Rattle.cells.specs.Free.{frameCells}
 use Rattle.cells.specs.Bytes.{loadCells, frameIn}
 use Rattle.cells.specs.Stored.{storedOperation}
 use Rattle.cells.specs.declared.stored.StoredHeader.{StoredHeader}
 use Rattle.cells.proofs.Loads.{length-load}
+use Rattle.cells.proofs.Steps.{follow-below}
 use Rattle.cells.proofs.Paths.{length-follow}
-use Rattle.leaving_bytes.specs.Frames.{leavingOf, storedAt, operationOfPort, leavingFrom, written}
+use Rattle.packed.specs.Operations.{isExempt}
+use Rattle.packed.specs.Ports.{defaultOf}
+use Rattle.leaving_bytes.specs.Frames.{leavingOf, storedAt, operationOfPort, leavingFrom, written, finished}
 
 -- the tags stand in the first twenty bytes
 two-front : (bytes : List ℕ) (i : ℕ) → i + 2 ≤ 20 → twoBytesAt (take 20 bytes) i ≡ twoBytesAt bytes i
@@ -74,38 +76,33 @@ module _ (out bytes : List ℕ) (stack : List Tag) (k t long : ℕ) (whole : len
       ∙ ap₂ (λ (x : List ℕ) (y : ℕ). sets x (0 + y) (replicate (60 - y) 0)) runs body-long
       ∙ ap (λ (y : ℕ). sets (sets (sets (sets out 0 (take 12 bytes)) 12 (stackBytes stack)) (12 + 4 * k) (drop (12 + 4 * t) bytes)) y (replicate (60 - end) 0)) (let z : 0 + end ≡ end = omega arith in z)))
 
-  pub in-four-runs :
-      (first second third fourth : List ℕ) (count : ℕ)
-      → first ≡ sets out 0 (take 12 bytes)
-      → second ≡ sets first 12 (stackBytes stack)
-      → third ≡ sets second (12 + 4 * k) (drop (12 + 4 * t) bytes)
-      → fourth ≡ sets third end (replicate (60 - end) 0)
-      → count ≡ end + (60 - end)
-      → (count, fourth) ≡ written out (retagged bytes stack)
-  in-four-runs first second third fourth count a b c d e = rw (e, d, c, b, a) retagged-written
+  -- the first two runs are written
+  pub front-written : {first : List ℕ} → first ≡ sets (sets out 0 (take 12 bytes)) 12 (stackBytes stack)
+      → finished first (12 + 4 * t) (12 + 4 * k) bytes end ≡ written out (retagged bytes stack)
+  front-written e = rw e retagged-written
 
 -- ---- a frame over its cells
 
-pub frame-long : (n : ℕ) (l mem : List ℕ) (k c long : ℕ) → 80 * n ≤ length mem → allBelow n (follow l k c) ≡ true → long + 8 ≤ 80 * k
-    → length (frameIn mem (follow l k c) long) ≡ long
+pub frame-long : (n : ℕ) (l mem : List ℕ) (k c long : ℕ) → 80 * n ≤ length mem → c < n → long + 8 ≤ 80 * k
+    → length (frameIn mem (follow n l k c) long) ≡ long
 unfolding frameIn
 frame-long n l mem k c long fits below room =
-    length-take-le long (drop 8 (loadCells mem (follow l k c)))
-    (simp length-drop (omega (arith, length-load n mem (follow l k c) fits below, length-follow l k c)))
+    length-take-le long (drop 8 (loadCells mem (follow n l k c)))
+    (simp length-drop (omega (arith, length-load n mem (follow n l k c) fits (follow-below n l k c below), length-follow n l k c)))
 
 leaving-length : (h : StoredHeader) (o : Operation) (tags : List Tag) → length (leavingOf h o tags) ≤ length tags + 2
 unfolding leavingOf
 leaving-length h o tags =
-    on (flag (h .exempt))
+    on (isExempt (h .operation))
     (λ e. rw e (omega arith))
-    (λ e. rw e (stack-grows (record { tags = tags; default = headerOf (h .default) }) (operationOf (storedOperation h)) o))
+    (λ e. rw e (stack-grows (record { tags = tags; default = defaultOf (h .default) }) (storedOperation h) o))
 
 pub leaving-few : (h : StoredHeader) (o : Operation) (own new : Stack) → stackIs new ≡ leavingOf h o (stackIs own) → new .count ≤ own .count + 2
 leaving-few h o own new e = omega (arith, stack-length own, stack-length new, ap length e, leaving-length h o (stackIs own))
 
-pub leaving-is : (h : StoredHeader) (cells links : List ℕ) (port c : ℕ) (own new : List Tag)
+pub leaving-is : (n : ℕ) (h : StoredHeader) (cells links : List ℕ) (port c : ℕ) (own new : List Tag)
     → h ≡ storedAt cells c
-    → own ≡ tagsOf (frameIn cells (frameCells links c) (h .length))
+    → own ≡ tagsOf (frameIn cells (frameCells n links c) (h .length))
     → new ≡ leavingOf h (operationOfPort links port) own
-    → retagged (frameIn cells (frameCells links c) (h .length)) new ≡ leavingFrom cells links port c
-leaving-is h cells links port c own new e p q = rw (q, p, e)
+    → retagged (frameIn cells (frameCells n links c) (h .length)) new ≡ leavingFrom n cells links port c
+leaving-is n h cells links port c own new e p q = rw (q, p, e)

@@ -4,65 +4,50 @@ ghost use mathlib.Core.Bool.{true, false};
 ghost use Prim.Native.Nat.{_+_, _*_, _-_, _/_, _%_, _≤_, _<_};
 ghost use lib.ListN.{length, replicate};
 ghost use lib.Seq.{sets};
-ghost use Rattle.rules.specs.Cells as rules;
-ghost use Rattle.rules.specs.Tags.{tagsOf};
-ghost use Rattle.rules.specs.Operations.{retagged};
-ghost use Rattle.rules.specs.Arguments.{operationInRange, operationOf};
-ghost use Rattle.layout.specs.Places.{linkWords, cellBytes};
-ghost use Rattle.cells.specs.Chains.{allBelow};
-ghost use Rattle.cells.specs.Free.{sizeOf, frameCells, isFrame};
+ghost use Rattle.rules.specs.Tags.{tagsOf, stackBytes};
+ghost use Rattle.rules.specs.Arguments.{operationOf};
+ghost use Rattle.layout.specs.Places.{fixedWords, linkWords, cellBytes};
+ghost use Rattle.cells.specs.Free.{frameCells, lastCell};
 ghost use Rattle.cells.specs.Bytes.{frontIn, frameIn};
-ghost use Rattle.cells.specs.Stored.{storedOperation};
 ghost use Rattle.tags.specs.Numbers.{stackIs};
 ghost use Rattle.leaving_tags.specs.Operations.{operationIs};
-ghost use Rattle.settings.specs.Records.{portAt};
+ghost use Rattle.packed.specs.Operations.{operationIn, isOperationWord, isStoredWord};
+ghost use Rattle.settings.specs.Records.{portOperationAt};
 ghost use Rattle.leaving_bytes.specs.Frames as spec;
 use cells::stored::StoredHeader;
 use layout::CELL_SIZE;
-use layout::PORT;
+use layout::PORT_OPERATION;
 use layout::PORT_STRIDE;
+use layout::SIZE_UNIT;
 use layout::STORED_HEADER;
 use leaving_tags::leaving::Operation;
+use packed::operation::given_header;
+use packed::operation::is_exempt;
+use packed::operation::is_operation_word;
+use packed::port::default_tag;
 use tags::stack::Stack;
 
-// The VLAN operation that was stored with a frame.
-fn stored_operation(h: StoredHeader) -> Operation
-    ensures { λ r. ⌜ operationIs r ≡ operationOf (storedOperation h) ⌝ }
+// The operation of a word: a port's, or a VLAN's that was stored with a frame.
+fn operation_of(word: u32) -> Operation
+    requires { ⌜ isOperationWord word ≡ true ⌝ }
+    ensures { λ r. ⌜ operationIs r ≡ operationOf (operationIn word) ⌝ }
 {
+    let header = given_header(word);
     Operation {
-        kind: (h.operation % 8) as u32,
-        tag_type: (h.operation / 8 % 2) as u32,
-        vid_source: (h.operation / 16 % 4) as u32,
-        pcp_source: (h.operation / 64) as u32,
-        header: h.header,
+        kind: word % 8,
+        tag_type: word / 8 % 2,
+        vid_source: word / 16 % 4,
+        pcp_source: word / 64 % 4,
+        header,
     }
-}
-
-// The departing port's operation.
-fn port_operation(links: &[u32], port: usize) -> Operation
-    requires { ⌜ (640 ≤ length (now links)) × (port < 5) × (operationInRange (portAt (now links) port .operation) ≡ true) ⌝ }
-    ensures { λ r. ⌜ operationIs r ≡ spec.operationOfPort (now (links .entry)) port ⌝ }
-{
-    let at = PORT + PORT_STRIDE * port;
-    let o = settings::operation::read_operation(links, at + 6);
-    leaving_tags::leaving::operation_of(
-        o.kind,
-        o.tag_type,
-        o.vid_source,
-        o.pcp_source,
-        o.vid,
-        o.pcp,
-        o.dei,
-    )
 }
 
 // Is the departing port's operation in range?
 fn operation_fits(links: &[u32], port: usize) -> bool
-    requires { ⌜ (640 ≤ length (now links)) × (port < 5) ⌝ }
-    ensures { λ r. ⌜ r ≡ operationInRange (portAt (now (links .entry)) port .operation) ⌝ }
+    requires { ⌜ (fixedWords ≤ length (now links)) × (port < 5) ⌝ }
+    ensures { λ r. ⌜ r ≡ isOperationWord (portOperationAt (now (links .entry)) port) ⌝ }
 {
-    let at = PORT + PORT_STRIDE * port;
-    settings::operation::operation_in_range(settings::operation::read_operation(links, at + 6))
+    is_operation_word(links[PORT_OPERATION + PORT_STRIDE * port])
 }
 
 // Is the stored header in range, and does it fit the frame's cells?
@@ -71,10 +56,11 @@ pub fn header_fits(links: &[u32], n: usize, port: usize, c: u32, h: StoredHeader
     ensures { λ r. ⌜ r ≡ spec.headerFits h port c (now (links .entry)) ⌝ }
 {
     if cells::stored::in_range(h) {
-        let size = cells::free::size(links, n, c);
-        // "The least whole number of cells holding n + 8 bytes."
-        if size == ((h.length as u32) + 87) / 80 {
-            if h.exempt == 1 {
+        let word = cells::free::word(links, n, c);
+        // "The least whole number of cells holding n + 8 bytes." It is no more than 52, so that no other bit of the
+        // word is set.
+        if word / SIZE_UNIT == ((h.length as u32) + 87) / 80 {
+            if is_exempt(h.operation) {
                 return true;
             }
             return operation_fits(links, port);
@@ -95,21 +81,23 @@ fn tags_at(cells: &[u8], n: usize, c: u32) -> Stack
 
 // The tags with which the frame leaves.
 fn leaving(links: &[u32], port: usize, h: StoredHeader, tags: Stack) -> Stack
-    requires { ⌜ (640 ≤ length (now links)) × (port < 5) × (tags .count ≤ 2) × (spec.operationFits h (now links) port ≡ true) ⌝ }
+    requires { ⌜ (fixedWords ≤ length (now links)) × (port < 5) × (tags .count ≤ 2) ⌝ }
+    requires { ⌜ (isStoredWord (h .operation) ≡ true) × (spec.operationFits h (now links) port ≡ true) ⌝ }
     ensures { λ r. ⌜ stackIs r ≡ spec.leavingOf h (spec.operationOfPort (now (links .entry)) port) (stackIs tags) ⌝ }
 {
-    if h.exempt == 1 {
+    if is_exempt(h.operation) {
         return tags;
     }
-    let vlan = stored_operation(h);
-    let own = port_operation(links, port);
-    leaving_tags::leaving::leaving_tags(h.default, tags, vlan, own)
+    let vlan = operation_of(h.operation);
+    let own = operation_of(links[PORT_OPERATION + PORT_STRIDE * port]);
+    leaving_tags::leaving::leaving_tags(default_tag(h.default), tags, vlan, own)
 }
 
 // "A result under 60 bytes is filled with zeros to 60." Answers the length then.
 fn pad(out: &mut [u8], long: usize) -> usize
     requires { ⌜ (long ≤ length (now out)) × (60 ≤ length (now out)) ⌝ }
-    ensures { λ r. ⌜ (r ≡ long + (60 - long)) × (now (out .exit) ≡ sets (now (out .entry)) long (replicate (60 - long) 0)) ⌝ }
+    ensures { λ r. ⌜ (r ≡ long + (60 - long))
+        × (now (out .exit) ≡ sets (now (out .entry)) long (replicate (60 - long) 0)) ⌝ }
 {
     if long < 60 {
         slices::fill(out, long, 60 - long, 0);
@@ -118,35 +106,74 @@ fn pad(out: &mut [u8], long: usize) -> usize
     long
 }
 
-// The frame's bytes under other tags, from the front of out on. Answers how many they are.
-fn write_retagged(
-    cells: &[u8],
-    links: &[u32],
-    n: usize,
-    c: u32,
-    long: usize,
-    tags: Stack,
-    leaving: Stack,
-    out: &mut [u8],
-) -> usize
-    requires { ⌜ (linkWords n ≤ length (now links)) × (cellBytes n ≤ length (now cells)) × (4091 ≤ length (now out)) × (60 ≤ long) × (long ≤ 4083) ⌝ }
-    requires { ⌜ (1 ≤ sizeOf (now links) c) × (allBelow n (frameCells (now links) c) ≡ true) × (sizeOf (now links) c ≡ rules.cells long) ⌝ }
-    requires { ⌜ (stackIs tags ≡ tagsOf (frameIn (now cells) (frameCells (now links) c) long)) × (tags .count ≤ 2) × (leaving .count ≤ tags .count + 2) ⌝ }
-    ensures { λ r. ⌜ (r, now (out .exit)) ≡ spec.written (now (out .entry)) (retagged (frameIn (now (cells .entry)) (frameCells (now (links .entry)) c) long) (stackIs leaving)) ⌝ }
-    ensures { λ r. ⌜ r ≤ 4091 ⌝ }
+// Does no operation act on the frame?
+fn is_plain(links: &[u32], port: usize, h: StoredHeader) -> bool
+    requires { ⌜ (fixedWords ≤ length (now links)) × (port < 5) ⌝ }
+    ensures { λ r. ⌜ r ≡ spec.leavesPlain h (spec.operationOfPort (now (links .entry)) port) ⌝ }
+{
+    if is_exempt(h.operation) {
+        return true;
+    }
+    let own = links[PORT_OPERATION + PORT_STRIDE * port];
+    (h.operation % 8 == 0) & (own % 8 == 0)
+}
+
+// The frame's addresses and the tags with which it leaves, at the front of out.
+fn write_tags(cells: &[u8], n: usize, c: u32, leaving: Stack, out: &mut [u8])
+    requires { ⌜ (cellBytes n ≤ length (now cells)) × (28 ≤ length (now out)) × (c < n) × (leaving .count ≤ 4) ⌝ }
+    ensures { λ _. ⌜ now (out .exit)
+        ≡ sets (sets (now (out .entry)) 0 (frontIn (now (cells .entry)) c 12)) 12 (stackBytes (stackIs leaving)) ⌝ }
 {
     let a = CELL_SIZE * (c as usize) + STORED_HEADER;
     let e = a + 12;
     slices::copy(out, 0, &cells[a..e]);
     leaving_tags::writing::encode(leaving, out, 12);
-    let from = 12 + 4 * tags.count;
-    let at = 12 + 4 * leaving.count;
-    let size = cells::free::size(links, n, c) as usize;
-    cells::bytes::load(cells, links, n, c, size, from, long, out, at);
-    pad(out, at + (long - from))
 }
 
-// The frame's bytes as they leave the port.
+// What follows the frame's first `from` bytes is to go into the buffer, from place `at` on.
+pub struct Front {
+    pub from: usize,
+    pub at: usize,
+}
+
+// The addresses and the tags, if the frame leaves with other ones than it came with.
+fn write_front(
+    cells: &[u8],
+    links: &[u32],
+    n: usize,
+    port: usize,
+    c: u32,
+    h: StoredHeader,
+    out: &mut [u8],
+) -> Front
+    requires { ⌜ (linkWords n ≤ length (now links)) × (cellBytes n ≤ length (now cells))
+        × (4091 ≤ length (now out)) × (port < 5) ⌝ }
+    requires { ⌜ (h ≡ spec.storedAt (now cells) c) × (c < n) × (spec.headerFits h port c (now links) ≡ true) ⌝ }
+    ensures { λ r. ⌜ spec.finished (now (out .exit)) (r .from) (r .at)
+        (frameIn (now (cells .entry)) (frameCells n (now (links .entry)) c) (h .length)) (r .at + (h .length - r .from))
+        ≡ spec.written (now (out .entry)) (spec.leavingFrom n (now (cells .entry)) (now (links .entry)) port c) ⌝ }
+    ensures { λ r. ⌜ (r .from ≤ 20) × (r .at ≤ r .from + 8) ⌝ }
+{
+    if is_plain(links, port, h) {
+        return Front { from: 0, at: 0 };
+    }
+    let own = tags_at(cells, n, c);
+    let new = leaving(links, port, h, own);
+    write_tags(cells, n, c, new, out);
+    Front {
+        from: 12 + 4 * own.count,
+        at: 12 + 4 * new.count,
+    }
+}
+
+// What was written: how many bytes. Besides, the last cell that was read, where the frame's cells end.
+pub struct Written {
+    pub long: usize,
+    pub last: usize,
+}
+
+// The frame's bytes as they leave the port. Its cells are read at one place for both ways, so that the compiler puts
+// the loop here.
 pub fn write_leaving(
     cells: &[u8],
     links: &[u32],
@@ -155,14 +182,20 @@ pub fn write_leaving(
     c: u32,
     h: StoredHeader,
     out: &mut [u8],
-) -> usize
-    requires { ⌜ (linkWords n ≤ length (now links)) × (cellBytes n ≤ length (now cells)) × (4091 ≤ length (now out)) × (port < 5) ⌝ }
-    requires { ⌜ (h ≡ spec.storedAt (now cells) c) × (c < n) × (isFrame n c (now links) ≡ true) × (spec.headerFits h port c (now links) ≡ true) ⌝ }
-    ensures { λ r. ⌜ (r, now (out .exit)) ≡ spec.written (now (out .entry)) (spec.leavingFrom (now (cells .entry)) (now (links .entry)) port c) ⌝ }
-    ensures { λ r. ⌜ r ≤ 4091 ⌝ }
+) -> Written
+    requires { ⌜ (linkWords n ≤ length (now links)) × (cellBytes n ≤ length (now cells)) × (4091 ≤ length (now out))
+        × (port < 5) ⌝ }
+    requires { ⌜ (h ≡ spec.storedAt (now cells) c) × (c < n) × (spec.headerFits h port c (now links) ≡ true) ⌝ }
+    ensures { λ r. ⌜ (r .long, now (out .exit))
+        ≡ spec.written (now (out .entry)) (spec.leavingFrom n (now (cells .entry)) (now (links .entry)) port c) ⌝ }
+    ensures { λ r. ⌜ (r .long ≤ 4091) × (r .last ≡ lastCell n (now (links .entry)) c) ⌝ }
 {
-    let own = tags_at(cells, n, c);
-    let new = leaving(links, port, h, own);
     let long = h.length as usize;
-    write_retagged(cells, links, n, c, long, own, new, out)
+    let front = write_front(cells, links, n, port, c, h, out);
+    let last = cells::bytes::load(cells, links, n, c, front.from, long, out, front.at);
+    let written = pad(out, front.at + (long - front.from));
+    Written {
+        long: written,
+        last,
+    }
 }

@@ -1,3 +1,1 @@
 pub mod Operations
-pub mod Leaving
-pub mod Writing

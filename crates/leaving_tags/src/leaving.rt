@@ -1,5 +1,4 @@
 // The tags with which a frame leaves: the five operations, and where the fields of a new tag come from.
-use tags::headers::header;
 use tags::headers::header_at;
 use tags::stack::Stack;
 use tags::stack::few;
@@ -7,9 +6,9 @@ use tags::stack::pop;
 use tags::stack::push;
 ghost use mathlib.Core.Path.{_≡_};
 ghost use Prim.Native.Nat.{_≤_, _<_};
-ghost use Rattle.rules.specs.Tags.{HeaderInRange, headerOf};
+ghost use Rattle.rules.specs.Tags.{headerOf};
 ghost use Rattle.rules.specs.Operations.{from, newTag, operate, leavingTags};
-ghost use Rattle.rules.specs.Arguments.{typeOf, sourceOf, operationOf};
+ghost use Rattle.rules.specs.Arguments.{typeOf, sourceOf};
 ghost use Rattle.tags.specs.Numbers.{tagIs, joinedTag, stackIs, originIs};
 ghost use Rattle.leaving_tags.specs.Operations.{operationIs};
 
@@ -22,30 +21,8 @@ pub struct Operation {
     pub header: u16,
 }
 
-// The seven numbers of an operation, put together.
-pub fn operation_of(
-    kind: u32,
-    tag_type: u32,
-    vid_source: u32,
-    pcp_source: u32,
-    vid: u32,
-    pcp: u32,
-    dei: u32,
-) -> Operation
-    requires { ⌜ HeaderInRange (record { pcp = pcp; dei = dei; vid = vid }) ⌝ }
-    ensures { λ r. ⌜ operationIs r ≡ operationOf (record { kind = kind; type = «tag_type»; vidSource = «vid_source»; pcpSource = «pcp_source»; vid = vid; pcp = pcp; dei = dei }) ⌝ }
-{
-    let given = header(pcp, dei, vid);
-    Operation {
-        kind,
-        tag_type,
-        vid_source,
-        pcp_source,
-        header: given,
-    }
-}
-
-// "A new tag's VID, and its PCP with DEI, come each from the original outermost tag, the original second tag, or the operation."
+// "A new tag's VID, and its PCP with DEI, come each from the original outermost tag, the original second tag, or the
+// operation."
 fn source_header(default: u16, tags: Stack, given: u16, source: u32) -> u16
     ensures { λ r. ⌜ headerOf r ≡ from (originIs tags default) (headerOf given) (sourceOf source) ⌝ }
 {

@@ -8,13 +8,14 @@ use lib.ListN.{length}
 use borrow.Author.Tests.{lt-ltb, le-ltb}
 use Rattle.rules.specs.Lines.{first}
 use Rattle.rules.specs.Refusals.{Lines, memoryLength, portAboveFour, outOfRange, portLine, rangeLine}
+use Rattle.layout.specs.Places.{fixedWords}
 use Rattle.lent.specs.declared.Answer.{Answer}
 use Rattle.lent.specs.Lengths.{linksFit}
-use Rattle.lent.specs.Fits.{links-fit}
+use Rattle.lent.proofs.Fits.{links-fit}
 use Rattle.lent.specs.Answers.{refusedBy, lengthLine, orRefused}
 
 -- memory that fits has the fixed part
-pub fixed-part : (l : List ℕ) → linksFit l ≡ true → 640 ≤ length l
+pub fixed-part : (l : List ℕ) → linksFit l ≡ true → fixedWords ≤ length l
 fixed-part l h = omega (arith, links-fit l h)
 
 -- two ranges

@@ -14,6 +14,8 @@ pub record LengthTheorems : Type 0 where
   -- "At most 1,024 bytes for each cell and 65,536 besides": a word of link memory has four bytes.
   pub link-memory-bound : (n : ℕ) → 4 * linkWordsFor n ≤ 1024 * n + 65536
   -- Each memory fits in exactly one length; the cell count is the one that link memory says.
-  pub links-exactly : (links : List ℕ) → (linksFit links ≡ true) ↔ ((isCellCount (cellCount links) ≡ true) × (length links ≡ linkWordsFor (cellCount links)))
+  pub links-exactly : (links : List ℕ)
+      → (linksFit links ≡ true)
+      ↔ ((isCellCount (cellCount links) ≡ true) × (length links ≡ linkWordsFor (cellCount links)))
   pub cells-exactly : (cells links : List ℕ) → (cellsFit cells links ≡ true) ↔ (length cells ≡ 80 * cellCount links)
   pub addresses-exactly : (addresses : List ℕ) → (addressesFit addresses ≡ true) ↔ (length addresses ≡ 4112)

@@ -1,4 +1,5 @@
--- Refusal 1: the lengths of lent memory, and the count of cells that link word 0 says. Assumes nothing: these are definitions.
+-- Refusal 1: the lengths of lent memory, and the count of cells that link word 0 says. Assumes nothing: these are
+-- definitions.
 use Prim.Native.Nat.{ℕ}
 use mathlib.Core.Bool.{Bool, _&&_}
 use mathlib.Core.List.{List}

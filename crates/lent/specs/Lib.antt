@@ -1,5 +1,3 @@
 pub mod Lengths
 pub mod Answers
-pub mod Laws
-pub mod Fits
 pub mod LengthTheorems

@@ -1,4 +1,6 @@
 // Lent memory: its lengths, and what a call over it answers.
+use layout::CELL_STRIDE;
+use layout::FIXED_WORDS;
 ghost use mathlib.Core.Path.{_≡_};
 ghost use mathlib.Core.Bool.{true};
 ghost use lib.ListN.{length};
@@ -39,7 +41,7 @@ pub fn link_words(n: u32) -> u64
     ensures { λ r. ⌜ r ≡ linkWordsFor n ⌝ }
 {
     if is_cell_count(n) {
-        640 + 24 * (n as u64)
+        (FIXED_WORDS as u64) + (CELL_STRIDE as u64) * (n as u64)
     } else {
         0
     }
@@ -54,7 +56,7 @@ pub fn links_fit(links: &[u32]) -> bool
     }
     let n = links[0];
     if is_cell_count(n) {
-        links.len() == 640 + 24 * (n as usize)
+        links.len() == FIXED_WORDS + CELL_STRIDE * (n as usize)
     } else {
         false
     }

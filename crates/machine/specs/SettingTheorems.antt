@@ -10,7 +10,8 @@ use Rattle.rules.specs.Addresses.{key, setStatic}
 use Rattle.rules.specs.Addresses as Addresses
 use Rattle.rules.specs.Arguments.{VlanNumbers, portOf, vlanEntry}
 use Rattle.rules.specs.Requests.{PortRequest, StaticRequest, RemoveRequest, MapRequest, SwitchRequest}
-use Rattle.machine.specs.State.{State, Step, port, vlan, clearVlan, static, remove, map, queueSwitch, bpdu, age, done}
+use Rattle.machine.specs.State.{State, Step, port, vlan, clearVlan, static, remove, map, queueSwitch, bpdu, age}
+use Rattle.machine.specs.State.{done}
 use Rattle.machine.specs.Machine.{perform}
 use Rattle.machine.specs.History.{fresh}
 use Rattle.machine.specs.CallTheorems.{Allowed}
@@ -54,9 +55,11 @@ module _ (s : State) where
   -- "One entry a VID; setting a VID that is there replaces its entry."
   pub record VlanSets (n : VlanNumbers) (allowed : Allowed s (vlan n)) : Type 0 where
     pub quiet : Quiet s (perform s (vlan n))
-    pub this-vid : (isThere (perform s (vlan n) .core .settings .vlans) (n .vid) ≡ true) × (vlanOf (perform s (vlan n) .core .settings .vlans) (n .vid) ≡ vlanEntry n)
+    pub this-vid : (isThere (perform s (vlan n) .core .settings .vlans) (n .vid) ≡ true)
+        × (vlanOf (perform s (vlan n) .core .settings .vlans) (n .vid) ≡ vlanEntry n)
     pub other-vids : (v : ℕ) → (v ≡ n .vid → ⊥)
-        → (isThere (perform s (vlan n) .core .settings .vlans) v ≡ isThere (before .vlans) v) × (vlanOf (perform s (vlan n) .core .settings .vlans) v ≡ vlanOf (before .vlans) v)
+        → (isThere (perform s (vlan n) .core .settings .vlans) v ≡ isThere (before .vlans) v)
+        × (vlanOf (perform s (vlan n) .core .settings .vlans) v ≡ vlanOf (before .vlans) v)
     pub ports : SamePorts (perform s (vlan n) .core .settings) before
     pub queue-map : SameMap (perform s (vlan n) .core .settings) before
     pub switches : SameSwitches (perform s (vlan n) .core .settings) before
@@ -78,7 +81,8 @@ module _ (s : State) where
   pub record MapSets (c : MapRequest) (allowed : Allowed s (map c)) : Type 0 where
     pub quiet : Quiet s (perform s (map c))
     pub this-pcp : perform s (map c) .core .settings .queueOf (c .pcp) ≡ c .queue
-    pub other-pcps : (pcp : ℕ) → (pcp ≡ c .pcp → ⊥) → perform s (map c) .core .settings .queueOf pcp ≡ before .queueOf pcp
+    pub other-pcps : (pcp : ℕ) → (pcp ≡ c .pcp → ⊥)
+        → perform s (map c) .core .settings .queueOf pcp ≡ before .queueOf pcp
     pub ports : SamePorts (perform s (map c) .core .settings) before
     pub vlans : SameVlans (perform s (map c) .core .settings) before
     pub switches : SameSwitches (perform s (map c) .core .settings) before
@@ -89,8 +93,10 @@ module _ (s : State) where
     pub quiet : Quiet s (perform s (queueSwitch c))
     pub turned-on : c .on ≡ 1 → perform s (queueSwitch c) .core .settings .queueOn (c .port) (c .queue) ≡ true
     pub turned-off : c .on ≡ 0 → perform s (queueSwitch c) .core .settings .queueOn (c .port) (c .queue) ≡ false
-    pub other-ports : (r q : ℕ) → (r ≡ c .port → ⊥) → perform s (queueSwitch c) .core .settings .queueOn r q ≡ before .queueOn r q
-    pub other-queues : (q : ℕ) → (q ≡ c .queue → ⊥) → perform s (queueSwitch c) .core .settings .queueOn (c .port) q ≡ before .queueOn (c .port) q
+    pub other-ports : (r q : ℕ) → (r ≡ c .port → ⊥)
+        → perform s (queueSwitch c) .core .settings .queueOn r q ≡ before .queueOn r q
+    pub other-queues : (q : ℕ) → (q ≡ c .queue → ⊥)
+        → perform s (queueSwitch c) .core .settings .queueOn (c .port) q ≡ before .queueOn (c .port) q
     pub ports : SamePorts (perform s (queueSwitch c) .core .settings) before
     pub vlans : SameVlans (perform s (queueSwitch c) .core .settings) before
     pub queue-map : SameMap (perform s (queueSwitch c) .core .settings) before
@@ -107,7 +113,8 @@ module _ (s : State) where
     pub switches : SameSwitches (perform s (bpdu on) .core .settings) before
     pub table : perform s (bpdu on) .core .table ≡ s .core .table
 
-  -- the address calls change the table as `rules/specs/AddressTheorems` says, under the key of the GID and the address that were handed over
+  -- the address calls change the table as `rules/specs/AddressTheorems` says, under the key of the GID and the address
+  -- that were handed over
   pub record StaticSets (c : StaticRequest) (allowed : Allowed s (static c)) : Type 0 where
     pub quiet : Quiet s (perform s (static c))
     pub table : perform s (static c) .core .table ≡ setStatic (s .core .table) (key (c .gid) (c .address)) (c .port)
@@ -134,10 +141,12 @@ pub record Mapped (queueOf : ℕ → ℕ) : Type 0 where
   pub pcp-6 : queueOf 6 ≡ 3
   pub pcp-7 : queueOf 7 ≡ 3
 
--- "Fresh: VID 1 with all ports, GID 0, no operation; ports Disabled, assignment 1, default VID 1, PCP and DEI 0, no flags, no operation;
--- queues on; BPDU handling on; counters 0; no address known; all cells free"; "fresh map PCP / 2 rounded down"
+-- "Fresh: VID 1 with all ports, GID 0, no operation; ports Disabled, assignment 1, default VID 1, PCP and DEI 0, no
+-- flags, no operation; queues on; BPDU handling on; counters 0; no address known; all cells free"; "fresh map PCP / 2
+-- rounded down"
 pub record FreshIs (n : ℕ) : Type 0 where
-  pub one-vlan : (v : Vlan) × (fresh n .core .settings .vlans ≡ v ∷ []) × (v .vid ≡ 1) × (v .gid ≡ 0) × (v .operation ≡ noOperation)
+  pub one-vlan : (v : Vlan) × (fresh n .core .settings .vlans ≡ v ∷ []) × (v .vid ≡ 1) × (v .gid ≡ 0)
+      × (v .operation ≡ noOperation)
       × ((p : ℕ) → p ≤ 4 → v .member p ≡ true)
   pub port-state : (p : ℕ) → fresh n .core .settings .port p .state ≡ disabled
   pub port-assignment : (p : ℕ) → fresh n .core .settings .port p .assignment ≡ 1

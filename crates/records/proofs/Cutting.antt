@@ -9,7 +9,7 @@ use lib.ListN.{length, length-append, List·getD-append}
 use Rattle.rules.specs.Tags.{Bytes}
 use Rattle.records.specs.Reading.{littleEndianAt}
 use Rattle.records.specs.Framing.{ifEnded, recordLength, nextOf}
-use Rattle.records.specs.FramingLaws.{next-none, next-one-byte, next-length-under-two, next-cut, next-whole}
+use Rattle.records.proofs.FramingLaws.{next-none, next-one-byte, next-length-under-two, next-cut, next-whole}
 use Rattle.records.specs.FramingTheorems.{FramingTheorems}
 use Rattle.records.specs.declared.framing.Next.{Next}
 use Rattle.records.specs.declared.framing.Next.the-variants.{More, Finished, Cut, Whole}

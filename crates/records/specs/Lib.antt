@@ -1,9 +1,5 @@
 pub mod Reading
 pub mod Framing
-pub mod FramingLaws
 pub mod FramingTheorems
-pub mod MoveLaws
 pub mod Requests
-pub mod RequestLaws
 pub mod Lines
-pub mod LineLaws

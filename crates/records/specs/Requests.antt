@@ -11,7 +11,9 @@ use Rattle.records.specs.declared.requests.OperationNumbers.{OperationNu
 use Rattle.records.specs.declared.requests.PortNumbers.{PortNumbers}
 use Rattle.records.specs.declared.requests.VlanNumbers.{VlanNumbers}
 use Rattle.records.specs.declared.requests.Request.{Request}
-use Rattle.records.specs.declared.requests.Request.the-variants.{FrameIn, Take, Age, Counter, Port, Vlan, ClearVlan, Static, Remove, Map, QueueSwitch, Drain, Bpdu, Bad}
+use Rattle.records.specs.declared.requests.Request.the-variants.{FrameIn, Take, Age, Counter, Port, Vlan}
+use Rattle.records.specs.declared.requests.Request.the-variants.{ClearVlan, Static, Remove, Map, QueueSwitch}
+use Rattle.records.specs.declared.requests.Request.the-variants.{Drain, Bpdu, Bad}
 
 -- kind; type; VID source; PCP source; VID(2); PCP; DEI
 unfoldable pub operationAt : List ℕ → ℕ → OperationNumbers

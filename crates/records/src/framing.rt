@@ -47,7 +47,8 @@ fn if_ended(ended: bool, last: Next) -> Next
 // Moves what was read and not yet taken, places `from` to `to`, to the front of the buffer.
 pub fn move_to_front(buffer: &mut [u8], from: usize, to: usize)
     requires { ⌜ (from ≤ to) × (to ≤ length (now buffer)) ⌝ }
-    ensures { λ _. ⌜ now (buffer .exit) ≡ sets (now (buffer .entry)) 0 (take (to - from) (drop from (now (buffer .entry)))) ⌝ }
+    ensures { λ _. ⌜ now (buffer .exit)
+        ≡ sets (now (buffer .entry)) 0 (take (to - from) (drop from (now (buffer .entry)))) ⌝ }
 {
     let count = to - from;
     let mut i = 0;

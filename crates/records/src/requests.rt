@@ -4,7 +4,7 @@ use crate::reading::kind_of;
 use crate::reading::little_endian;
 use lent::Answer;
 use lent::refused;
-use tags::reading::address_at;
+use tags::reading::address_in_six;
 ghost use mathlib.Core.Path.{_≡_};
 ghost use Prim.Native.Nat.{_+_, _≤_};
 ghost use mathlib.Core.Bool.{true};
@@ -142,11 +142,11 @@ fn ask(kind: u32, body: &[u8]) -> Request
         8 => Request::Static {
             gid: byte_at(body, 0),
             port: byte_at(body, 1),
-            address: address_at(body, 2),
+            address: address_in_six(body, 2),
         },
         9 => Request::Remove {
             gid: byte_at(body, 0),
-            address: address_at(body, 1),
+            address: address_in_six(body, 1),
         },
         10 => Request::Map {
             pcp: byte_at(body, 0),

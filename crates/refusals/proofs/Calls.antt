@@ -72,14 +72,14 @@ refusal-theorems =
       take = take-hands-back;
       age = λ addresses. refuses (ageRefusals addresses) addresses _ refl (omega arith, tt);
       counter = λ links port number. refuses (counterRefusals links port number) links _ refl (omega arith, (omega arith, tt));
-      port = λ links port new. refuses (portRefusals links port new) links _ refl (omega arith, (omega arith, tt));
+      port = λ links port new. refuses (portRefusals links port new) links _ refl (omega arith, (omega arith, (omega arith, tt)));
       vlan = λ links new. refuses (vlanRefusals links new) links _ refl (omega arith, (omega arith, (omega arith, tt)));
       clear-vlan = λ links vid. refuses (clearVlanRefusals links vid) links _ refl (omega arith, (omega arith, (omega arith, tt)));
       static = λ addresses gid port address.
           refuses (staticRefusals addresses gid port address) addresses _ refl (omega arith, (omega arith, (omega arith, (omega arith, (omega arith, tt)))));
       remove = λ addresses gid address. refuses (removeRefusals addresses gid address) addresses _ refl (omega arith, (omega arith, (omega arith, tt)));
-      queue-map = λ links pcp queue. refuses (mapRefusals links pcp queue) links _ refl (omega arith, tt);
-      queue-switch = λ links port queue on. refuses (queueSwitchRefusals links port queue on) links _ refl (omega arith, (omega arith, tt));
+      queue-map = λ links pcp queue. refuses (mapRefusals links pcp queue) links _ refl (omega arith, (omega arith, tt));
+      queue-switch = λ links port queue on. refuses (queueSwitchRefusals links port queue on) links _ refl (omega arith, (omega arith, (omega arith, tt)));
       drain = λ links port. refuses (drainRefusals links port) links _ refl (omega arith, (omega arith, tt));
-      bpdu = λ links on. refuses (bpduRefusals links on) links _ refl (omega arith, tt);
+      bpdu = λ links on. refuses (bpduRefusals links on) links _ refl (omega arith, (omega arith, tt));
     }

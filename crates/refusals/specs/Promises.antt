@@ -1,4 +1,5 @@
--- What the table of refusals asks of a call over lent memory, whatever its lines are. Assumes nothing: these are definitions.
+-- What the table of refusals asks of a call over lent memory, whatever its lines are. Assumes nothing: these are
+-- definitions.
 use Prim.Native.Nat.{ℕ}
 use mathlib.Core.Path.{_≡_}
 use mathlib.Core.Logic.{_↔_}
@@ -10,7 +11,8 @@ use Rattle.rules.specs.Refusals.{Refusal, Lines, refusalNumber}
 use Rattle.lent.specs.declared.Answer.{Answer}
 use Rattle.lent.specs.Answers.{refusedBy}
 
--- A promise is a function: for every argument and memory it gives one answer and one memory, so that two programs that meet it do the same.
+-- A promise is a function: for every argument and memory it gives one answer and one memory, so that two programs that
+-- meet it do the same.
 abbrev pub OfAFunction : {A : Type 0} → A → Type 0
 OfAFunction {A} promised = (one other : A) → one ≡ promised → other ≡ promised → one ≡ other
 

@@ -1,5 +1,6 @@
--- The facts of a frame at its arrival port: what the frame, the settings, the address table and the free cells give it. They are made
--- once, when it arrives; the reasons, the events and the stored frame read them. Assumes nothing: these are definitions.
+-- The facts of a frame at its arrival port: what the frame, the settings, the address table and the free cells give it.
+-- They are made once, when it arrives; the reasons, the events and the stored frame read them. Assumes nothing: these
+-- are definitions.
 use Prim.Native.Nat.{ℕ}
 use mathlib.Core.Bool.{Bool, _&&_, not}
 use mathlib.Core.List.{List}

@@ -1,10 +1,11 @@
--- What the numbers of a call mean, said field by field. (What a kind, a type, a source, a state, a flag stand for: `NumberTheorems`.)
--- `proofs/Meanings.antt` proves it. Assumes nothing: these are definitions.
+-- What the numbers of a call mean, said field by field. (What a kind, a type, a source, a state, a flag stand for:
+-- `NumberTheorems`.) `proofs/Meanings.antt` proves it. Assumes nothing: these are definitions.
 use Prim.Native.Nat.{ℕ}
 use mathlib.Core.Path.{_≡_}
 use Rattle.rules.specs.Operations.{Operation}
 use Rattle.rules.specs.Settings.{Port, Vlan}
-use Rattle.rules.specs.Arguments.{kindOf, typeOf, sourceOf, stateOf, bit, OperationNumbers, operationOf, PortNumbers, portOf, VlanNumbers, vlanEntry}
+use Rattle.rules.specs.Arguments.{kindOf, typeOf, sourceOf, stateOf, bit, OperationNumbers, operationOf}
+use Rattle.rules.specs.Arguments.{PortNumbers, portOf, VlanNumbers, vlanEntry}
 
 pub record OperationMeans (n : OperationNumbers) (o : Operation) : Type 0 where
   pub kind : o .kind ≡ kindOf (n .kind)

@@ -1,5 +1,5 @@
--- The numbers of the exact rules, each in one place: ports, queues, VIDs, tags, addresses and counters. (Lengths and cells: `Cells`.)
--- Assumes nothing: these are definitions.
+-- The numbers of the exact rules, each in one place: ports, queues, VIDs, tags, addresses and counters. (Lengths and
+-- cells: `Cells`.) Assumes nothing: these are definitions.
 use Prim.Native.Nat.{ℕ, _+_, _*_, _^_}
 use mathlib.Core.List.{List, [], _∷_}
 

@@ -15,9 +15,11 @@ use Rattle.rules.specs.Outcomes.{frameOf, drops, queues, outcomeOf, lear
 pub record OutcomeTheorems (f : Facts) (t : Table) : Type 0 where
   pub dropped : (r : Reason) → reasonFor f ≡ some r → outcomeOf f ≡ drops r
   pub queued : reasonFor f ≡ none → outcomeOf f ≡ queues (frameOf f) (portsLeft (f .test))
-  -- a frame that learns marks by its look-up, and then its source is learned for the arrival port; another changes nothing
+  -- a frame that learns marks by its look-up, and then its source is learned for the arrival port; another changes
+  -- nothing
   pub learned : learns f ≡ true → tableAfter f t ≡ learn (afterLookUp (f .lookUp) t) (f .sourceKey) (f .port)
   pub not-learned : learns f ≡ false → tableAfter f t ≡ t
   -- "not learned": it was to be learned, and there was no place
   pub no-place-exactly : (isNotLearned f t ≡ true)
-      ↔ ((learns f ≡ true) × (find (afterLookUp (f .lookUp) t) (f .sourceKey) ≡ nowhere) × (emptyFor (afterLookUp (f .lookUp) t) (f .sourceKey) ≡ none))
+      ↔ ((learns f ≡ true) × (find (afterLookUp (f .lookUp) t) (f .sourceKey) ≡ nowhere)
+      × (emptyFor (afterLookUp (f .lookUp) t) (f .sourceKey) ≡ none))

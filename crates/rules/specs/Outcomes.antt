@@ -1,4 +1,5 @@
--- What a frame's facts come to: its one outcome, the frame that is stored, and what its source leaves in the address table.
+-- What a frame's facts come to: its one outcome, the frame that is stored, and what its source leaves in the address
+-- table.
 -- Assumes nothing: these are definitions.
 use Prim.Native.Nat.{ℕ}
 use mathlib.Core.Bool.{Bool, _&&_, not}
@@ -15,7 +16,8 @@ use Rattle.rules.specs.ReasonTable.{entering, choosing, reasonFor, isPas
 
 -- ---- the stored frame
 
--- The packet as it came, and what is taken when it arrives. `exempt`: a BPDU to port 4, on which no tag operation acts at all.
+-- The packet as it came, and what is taken when it arrives. `exempt`: a BPDU to port 4, on which no tag operation acts
+-- at all.
 pub record Frame : Type 0 where
   pub packet : Packet
   pub origin : Origin

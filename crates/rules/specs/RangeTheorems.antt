@@ -1,9 +1,11 @@
--- The ranges of what a call hands over, said field by field. `proofs/Ranges.antt` proves it. Assumes nothing: these are definitions.
+-- The ranges of what a call hands over, said field by field. `proofs/Ranges.antt` proves it. Assumes nothing: these are
+-- definitions.
 use Prim.Native.Nat.{ℕ, _^_, _≤_, _<_}
 use mathlib.Core.Path.{_≡_}
 use mathlib.Core.Logic.{_↔_}
 use mathlib.Core.Bool.{true}
-use Rattle.rules.specs.Arguments.{isVid, isAddress, OperationNumbers, operationInRange, PortNumbers, portInRange, VlanNumbers, vlanInRange}
+use Rattle.rules.specs.Arguments.{isVid, isAddress, OperationNumbers, operationInRange, PortNumbers, portInRange}
+use Rattle.rules.specs.Arguments.{VlanNumbers, vlanInRange}
 
 -- "given VID in an operation: 0 to 4094"; fields are checked for each kind
 pub record OperationFits (n : OperationNumbers) : Type 0 where

@@ -1,4 +1,5 @@
--- How a frame's addresses and tag types are read from its bytes. `proofs/Reading.antt` proves it. Assumes nothing: these are definitions.
+-- How a frame's addresses and tag types are read from its bytes. `proofs/Reading.antt` proves it. Assumes nothing:
+-- these are definitions.
 use Prim.Native.Nat.{ℕ, _+_, _*_, _%_}
 use mathlib.Core.Path.{_≡_}
 use mathlib.Core.Logic.{_↔_}
@@ -24,7 +25,8 @@ pub record ReadingTheorems : Type 0 where
   pub source-is : (u v w x y z a b c d e f : ℕ) (rest : List ℕ)
       → source (u ∷ v ∷ w ∷ x ∷ y ∷ z ∷ a ∷ b ∷ c ∷ d ∷ e ∷ f ∷ rest) ≡ highestFirst 0 (a ∷ b ∷ c ∷ d ∷ e ∷ f ∷ [])
   -- "the group bit is bit 0 of an address's first byte"
-  pub group-destination : (bytes : List ℕ) → Bytes bytes → (isGroup (destination bytes) ≡ true) ↔ (getD bytes 0 0 % 2 ≡ 1)
+  pub group-destination : (bytes : List ℕ) → Bytes bytes
+      → (isGroup (destination bytes) ≡ true) ↔ (getD bytes 0 0 % 2 ≡ 1)
   pub group-source : (bytes : List ℕ) → Bytes bytes → (isGroup (source bytes) ≡ true) ↔ (getD bytes 6 0 % 2 ≡ 1)
   -- the two tag types, and no other
   pub types-exactly : (n : ℕ) → (isTagType n ≡ true) ↔ TagType n

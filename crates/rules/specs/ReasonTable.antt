@@ -1,5 +1,5 @@
--- "What happens to a frame, in order": the table of the thirteen reasons with their conditions. It is the definition of a frame's
--- outcome, and of how far a frame came. Assumes nothing: these are definitions.
+-- "What happens to a frame, in order": the table of the thirteen reasons with their conditions. It is the definition of
+-- a frame's outcome, and of how far a frame came. Assumes nothing: these are definitions.
 use Prim.Native.Nat.{ℕ}
 use mathlib.Core.Bool.{Bool, true, not, _&&_}
 use mathlib.Core.List.{List, [], _∷_, map}
@@ -12,12 +12,14 @@ use Rattle.rules.specs.Numbers.{barredVid}
 use Rattle.rules.specs.Cells.{shortest, longest}
 use Rattle.rules.specs.Tags.{source, isGroup}
 use Rattle.rules.specs.Settings.{isBlocking, isListening, isLearning}
-use Rattle.rules.specs.Reasons.{Reason, short, long, groupSource, tagCount, portBlocking, portListening, vid4095, noVlan, noMember, portLearning, noCandidate, noPortLeft, noRoom}
+use Rattle.rules.specs.Reasons.{Reason, short, long, groupSource, tagCount, portBlocking, portListening, vid4095}
+use Rattle.rules.specs.Reasons.{noVlan, noMember, portLearning, noCandidate, noPortLeft, noRoom}
 use Rattle.rules.specs.PortTests.{anyCandidate, portsLeft}
 use Rattle.rules.specs.Facts.{Facts}
 
--- The four parts of the table. A BPDU to port 4 leaves it after reading and comes back for queueing; between entering and choosing the
--- destination is looked up and the source is learned; between choosing and queueing the candidates' tests are counted.
+-- The four parts of the table. A BPDU to port 4 leaves it after reading and comes back for queueing; between entering
+-- and choosing the destination is looked up and the source is learned; between choosing and queueing the candidates'
+-- tests are counted.
 pub data Part : Type 0 where
   reading entering choosing queueing : Part
 
@@ -73,4 +75,5 @@ reasonFor f = first (linesIn (isAsked (f .bpdu)) (reasonTable f))
 -- no reason that is asked holds, up to the end of this part
 unfoldable pub isPast : Part → Facts → Bool
 isPast part f =
-    isNothing (first (linesIn (λ (p : Part). isAsked (f .bpdu) p && leb (partNumber p) (partNumber part)) (reasonTable f)))
+    isNothing (first (linesIn (λ (p : Part). isAsked (f .bpdu) p
+    && leb (partNumber p) (partNumber part)) (reasonTable f)))

@@ -1,5 +1,6 @@
--- A table of entries with keys, in which each key has its places, searched in a fixed order: what a search gives, how an entry is set
--- and removed, and the law that a key has at most one entry. The address table is one; a second may use the same laws.
+-- A table of entries with keys, in which each key has its places, searched in a fixed order: what a search gives, how
+-- an entry is set and removed, and the law that a key has at most one entry. The address table is one; a second may use
+-- the same laws.
 -- A table is a function of the place, so that a change is of one place. Assumes nothing: these are definitions.
 use Prim.Native.Nat.{ℕ}
 use mathlib.Core.Path.{_≡_}
@@ -79,7 +80,8 @@ removeFound (at i e) t = put i none t
 unfoldable pub removeIn : {E : Type 0} → Keyed E → TableOf E → ℕ → TableOf E
 removeIn kind t k = removeFound (findIn kind t k) t
 
--- ---- what holds of every table that calls make: a key has at most one entry, and an entry stands where its key is looked for
+-- ---- what holds of every table that calls make: a key has at most one entry, and an entry stands where its key is
+-- looked for
 
 pub record Sound {E : Type 0} (kind : Keyed E) (t : TableOf E) : Type 0 where
   pub single : (i j : ℕ) (d e : E) → t i ≡ some d → t j ≡ some e → kind .keyOf d ≡ kind .keyOf e → i ≡ j

@@ -1,10 +1,28 @@
 // The call on BPDU handling.
+use layout::MAP;
 use lent::Answer;
 use lent::done;
 use lent::links_fit;
 use lent::refused;
+use packed::map::is_map_word;
+use packed::map::with_bpdu;
 ghost use mathlib.Core.Path.{_≡_};
-ghost use Rattle.setting_calls.specs.Calls.{bpduCall};
+ghost use Prim.Native.Nat.{_≤_};
+ghost use lib.ListN.{length};
+ghost use Rattle.layout.specs.Places.{fixedWords};
+ghost use Rattle.setting_calls.specs.Calls.{bpduCall, bpduMet};
+
+fn switch_bpdu(links: &mut [u32], on: u32) -> Answer
+    requires { ⌜ fixedWords ≤ length (now links) ⌝ }
+    ensures { λ r. ⌜ (r, now (links .exit)) ≡ bpduMet (now (links .entry)) on ⌝ }
+{
+    let word = links[MAP];
+    if is_map_word(word) {
+        links[MAP] = with_bpdu(word, on == 1);
+        return done(0, 0);
+    }
+    refused(10)
+}
 
 pub fn bpdu(links: &mut [u32], on: u32) -> Answer
     ensures { λ r. ⌜ (r, now (links .exit)) ≡ bpduCall (now (links .entry)) on ⌝ }
@@ -13,8 +31,7 @@ pub fn bpdu(links: &mut [u32], on: u32) -> Answer
         if on > 1 {
             return refused(3);
         }
-        words::word::set_bpdu_handling(links, on);
-        return done(0, 0);
+        return switch_bpdu(links, on);
     }
     refused(1)
 }

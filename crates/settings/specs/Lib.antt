@@ -1,14 +1,4 @@
 pub mod Records
-pub mod RecordRuns
-pub mod RecordLaws
-pub mod RangeLaws
 pub mod Counters
 pub mod Table
-pub mod TableSteps
 pub mod SettingsOf
-pub mod TableLaws
-pub mod FindLaws
-pub mod SettingsAlike
-pub mod SettingsLaws
-pub mod CounterLaws
-pub mod SameLaws

@@ -1,82 +1,39 @@
--- The layout paper's records: what the words of a port and of a VLAN entry say, and the words that say it. Assumes nothing: these are definitions.
-use Prim.Native.Nat.{ℕ, _+_}
+-- The layout paper's settings: what the words of a port and of a VLAN entry say, and the words that say it.
+-- Assumes nothing: these are definitions.
+use Prim.Native.Nat.{ℕ}
 use mathlib.Core.List.{List, [], _∷_}
-use lib.ListN.{getD}
-use Rattle.rules.specs.Arguments.{OperationNumbers, PortNumbers, VlanNumbers}
-use Rattle.layout.specs.Places.{portWord, stateField, assignmentField, defaultVidField, defaultPcpField, defaultDeiField, flagsField, portOperationField, vlanWord, vidField, membersField, gidField, vlanOperationField, kindField, typeField, vidSourceField, pcpSourceField, operationVidField, operationPcpField, operationDeiField}
-use Rattle.settings.specs.declared.operation.OperationSettings.{OperationSettings}
-use Rattle.settings.specs.declared.port.PortSettings.{PortSettings}
-use Rattle.settings.specs.declared.vlan.VlanSettings.{VlanSettings}
+use lib.ListN.{getD, set}
+use lib.Seq.{sets}
+use Rattle.rules.specs.Arguments.{PortNumbers, VlanNumbers}
+use Rattle.layout.specs.Places.{statesWord, portWord, portOperationWord, vlanWord, vlanOperationWord}
+use Rattle.packed.specs.Operations.{operationWord}
+use Rattle.packed.specs.Ports as Packed
+use Rattle.packed.specs.States.{withState}
+use Rattle.packed.specs.Settings.{portOfWords, vlanOfWords}
 
--- ---- the code's structs as the rules' numbers
+-- ---- what stands in link memory
 
-unfoldable pub operationIs : OperationSettings → OperationNumbers
-operationIs o =
-    record { kind = o .kind; type = o .«tag_type»; vidSource = o .«vid_source»; pcpSource = o .«pcp_source»; vid = o .vid; pcp = o .pcp; dei = o .dei }
+abbrev pub statesAt : List ℕ → ℕ
+statesAt links = getD links statesWord 0
 
-unfoldable pub portIs : PortSettings → PortNumbers
-portIs p =
-    record {
-      state = p .state;
-      assignment = p .assignment;
-      vid = p .vid;
-      pcp = p .pcp;
-      dei = p .dei;
-      flags = p .flags;
-      operation = operationIs (p .operation);
-    }
-
-unfoldable pub vlanIs : VlanSettings → VlanNumbers
-vlanIs v = record { vid = v .vid; members = v .members; gid = v .gid; operation = operationIs (v .operation) }
-
--- ---- the words of a record, in their order
-
-unfoldable pub operationWords : OperationNumbers → List ℕ
-operationWords n = n .kind ∷ n .type ∷ n .vidSource ∷ n .pcpSource ∷ n .vid ∷ n .pcp ∷ n .dei ∷ []
-
-unfoldable pub portWords : PortNumbers → List ℕ
-portWords n = n .state ∷ n .assignment ∷ n .vid ∷ n .pcp ∷ n .dei ∷ n .flags ∷ operationWords (n .operation)
-
-unfoldable pub vlanWords : VlanNumbers → List ℕ
-vlanWords n = n .vid ∷ n .members ∷ n .gid ∷ operationWords (n .operation)
-
--- ---- the record that stands at a word of link memory
-
-unfoldable pub operationAt : List ℕ → ℕ → OperationNumbers
-operationAt links at =
-    record {
-      kind = getD links (at + kindField) 0;
-      type = getD links (at + typeField) 0;
-      vidSource = getD links (at + vidSourceField) 0;
-      pcpSource = getD links (at + pcpSourceField) 0;
-      vid = getD links (at + operationVidField) 0;
-      pcp = getD links (at + operationPcpField) 0;
-      dei = getD links (at + operationDeiField) 0;
-    }
-
-unfoldable pub portFrom : List ℕ → ℕ → PortNumbers
-portFrom links at =
-    record {
-      state = getD links (at + stateField) 0;
-      assignment = getD links (at + assignmentField) 0;
-      vid = getD links (at + defaultVidField) 0;
-      pcp = getD links (at + defaultPcpField) 0;
-      dei = getD links (at + defaultDeiField) 0;
-      flags = getD links (at + flagsField) 0;
-      operation = operationAt links (at + portOperationField);
-    }
-
-unfoldable pub vlanFrom : List ℕ → ℕ → VlanNumbers
-vlanFrom links at =
-    record {
-      vid = getD links (at + vidField) 0;
-      members = getD links (at + membersField) 0;
-      gid = getD links (at + gidField) 0;
-      operation = operationAt links (at + vlanOperationField);
-    }
+abbrev pub portOperationAt : List ℕ → ℕ → ℕ
+portOperationAt links port = getD links (portOperationWord port) 0
 
 abbrev pub portAt : List ℕ → ℕ → PortNumbers
-portAt links port = portFrom links (portWord port)
+portAt links port = portOfWords (statesAt links) (getD links (portWord port) 0) (portOperationAt links port) port
 
 abbrev pub vlanAt : List ℕ → ℕ → VlanNumbers
-vlanAt links entry = vlanFrom links (vlanWord entry)
+vlanAt links entry = vlanOfWords (getD links (vlanWord entry) 0) (getD links (vlanOperationWord entry) 0)
+
+-- ---- the words of a port and of a VLAN entry, in their order
+
+abbrev pub portWords : PortNumbers → List ℕ
+portWords n = Packed.portWord n ∷ operationWord (n .operation) ∷ []
+
+abbrev pub vlanWords : VlanNumbers → List ℕ
+vlanWords n = Packed.vlanWord n ∷ operationWord (n .operation) ∷ []
+
+-- a port's settings written: its state among the states, and its two words
+unfoldable pub portWritten : List ℕ → ℕ → PortNumbers → List ℕ
+portWritten links port new =
+    sets (set links statesWord (withState (statesAt links) port (new .state))) (portWord port) (portWords new)

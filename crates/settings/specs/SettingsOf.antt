@@ -6,8 +6,10 @@ use lib.Dec.{ltb}
 use lib.ListN.{getD}
 use Rattle.rules.specs.Choice.{if_then_else_}
 use Rattle.rules.specs.Settings.{Port, Vlan, Settings}
-use Rattle.rules.specs.Arguments.{OperationNumbers, PortNumbers, VlanNumbers, portOf, vlanEntry, flag}
-use Rattle.layout.specs.Places.{bpduWord, mapWord, queueSwitchWord}
+use Rattle.rules.specs.Arguments.{OperationNumbers, PortNumbers, VlanNumbers, portOf, vlanEntry}
+use Rattle.layout.specs.Places.{mapWord, switchesWord}
+use Rattle.packed.specs.Maps.{queueIn, bpduIn}
+use Rattle.packed.specs.Switches.{switchIn}
 use Rattle.settings.specs.Records.{portAt, vlanAt}
 use Rattle.settings.specs.Table.{vlanCount}
 
@@ -28,17 +30,22 @@ freshVlan = record { vid = 1; members = 31; gid = 0; operation = freshOperation 
 unfoldable pub portsOf : List ℕ → ℕ → Port
 portsOf links port = if ltb port 5 then portOf (portAt links port) else portOf freshPort
 
-unfoldable pub queuesOf : List ℕ → ℕ → ℕ
-queuesOf links pcp = if ltb pcp 8 then getD links (mapWord pcp) 0 else (pcp / 2)
+-- by the map's word
+unfoldable pub queuesOf : ℕ → ℕ → ℕ
+queuesOf word pcp = if ltb pcp 8 then queueIn word pcp else (pcp / 2)
 
-unfoldable pub switchOf : List ℕ → ℕ → ℕ → Bool
-switchOf links port queue = if ltb queue 4 then flag (getD links (queueSwitchWord port queue) 0) else true
+-- by the switches' word
+unfoldable pub switchOf : ℕ → ℕ → ℕ → Bool
+switchOf word port queue = if ltb queue 4 then switchIn word port queue else true
 
-unfoldable pub switchesOf : List ℕ → ℕ → ℕ → Bool
-switchesOf links port = if ltb port 5 then switchOf links port else (λ queue. true)
+unfoldable pub switchesOf : ℕ → ℕ → ℕ → Bool
+switchesOf word port = if ltb port 5 then switchOf word port else (λ queue. true)
 
-unfoldable pub bpduOf : List ℕ → Bool
-bpduOf links = flag (getD links bpduWord 0)
+abbrev pub mapAt : List ℕ → ℕ
+mapAt links = getD links mapWord 0
+
+abbrev pub switchesAt : List ℕ → ℕ
+switchesAt links = getD links switchesWord 0
 
 -- so many entries, from one on
 unfoldable pub vlansFrom : ℕ → List ℕ → ℕ → List Vlan
@@ -54,7 +61,7 @@ settingsOf links =
     record {
       port = portsOf links;
       vlans = vlansOf links;
-      queueOf = queuesOf links;
-      queueOn = switchesOf links;
-      bpduHandling = bpduOf links;
+      queueOf = queuesOf (mapAt links);
+      queueOn = switchesOf (switchesAt links);
+      bpduHandling = bpduIn (mapAt links);
     }

@@ -1,5 +1,4 @@
-// Link memory's settings: records by value, their ranges, and the VLAN table.
-pub mod operation; // a tag operation's seven words
-pub mod port; // a port's record
-pub mod vlan; // a VLAN's entry
+// Link memory's settings: a port, a VLAN entry, and the VLAN table.
+pub mod port; // a port's words
+pub mod vlan; // a VLAN entry's words
 pub mod table; // the VLANs in use

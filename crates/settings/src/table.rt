@@ -1,28 +1,31 @@
 // The VLAN table: entries 0 to (VLANs in use) - 1.
-use crate::vlan::VlanSettings;
 use crate::vlan::write_vlan;
 use layout::VLAN;
 use layout::VLAN_COUNT;
 use layout::VLAN_STRIDE;
+use packed::port::is_vid_word;
+use packed::port::vid_in;
+use packed::vlan::VlanSettings;
 ghost use mathlib.Core.Path.{_≡_};
 ghost use mathlib.Core.List.{_++_};
 ghost use Prim.Native.Nat.{_+_, _-_, _<_, _≤_};
 ghost use lib.ListN.{length, getD, take, drop, replicate};
 ghost use lib.Seq.{sets};
-ghost use Rattle.layout.specs.Places.{vlanCountWord};
-ghost use Rattle.settings.specs.Records.{vlanIs};
+ghost use Rattle.layout.specs.Places.{fixedWords, vlanCountWord};
+ghost use Rattle.packed.specs.Ranges.{VlanRange};
+ghost use Rattle.packed.specs.Ports.{vlanIs};
 ghost use Rattle.settings.specs.Table.{foundVlan, addedVlan, clearedVlan};
 
 pub enum Found {
     At(usize),
     Nowhere,
-    // more than sixteen in use, or a VID out of range on the way
+    // more than sixteen in use, or an entry's word out of range on the way
     Damaged,
 }
 
 // The entry of a VID: the first match ends the search.
 pub fn find_vlan(links: &[u32], vid: u32) -> Found
-    requires { ⌜ 640 ≤ length (now links) ⌝ }
+    requires { ⌜ fixedWords ≤ length (now links) ⌝ }
     ensures { λ r. ⌜ r ≡ foundVlan (now (links .entry)) vid ⌝ }
 {
     let count = links[VLAN_COUNT] as usize;
@@ -32,11 +35,11 @@ pub fn find_vlan(links: &[u32], vid: u32) -> Found
     let mut entry = 0;
     while entry < count {
         let met = links[VLAN + VLAN_STRIDE * entry];
-        let good = (1 <= met) & (met <= 4094);
+        let good = is_vid_word(met);
         if !good {
             return Found::Damaged;
         }
-        if met == vid {
+        if vid_in(met) == vid {
             return Found::At(entry);
         }
         entry += 1;
@@ -46,7 +49,8 @@ pub fn find_vlan(links: &[u32], vid: u32) -> Found
 
 // "A new VID takes the next entry."
 pub fn add_vlan(links: &mut [u32], settings: VlanSettings)
-    requires { ⌜ (640 ≤ length (now links)) × (getD (now links) vlanCountWord 0 < 16) ⌝ }
+    requires { ⌜ (fixedWords ≤ length (now links)) × (getD (now links) vlanCountWord 0 < 16) ⌝ }
+    requires { ⌜ VlanRange (vlanIs settings) ⌝ }
     ensures { λ _. ⌜ now (links .exit) ≡ addedVlan (now (links .entry)) (vlanIs settings) ⌝ }
 {
     let count = links[VLAN_COUNT];
@@ -54,10 +58,11 @@ pub fn add_vlan(links: &mut [u32], settings: VlanSettings)
     links[VLAN_COUNT] = count + 1;
 }
 
-// The words from `at` up to `end` become those that stand one record later.
+// The words from `at` up to `end` become those that stand one entry later.
 fn move_down(links: &mut [u32], at: usize, end: usize)
-    requires { ⌜ (at ≤ end) × (end + 16 ≤ length (now links)) ⌝ }
-    ensures { λ _. ⌜ now (links .exit) ≡ sets (now (links .entry)) at (take (end - at) (drop (at + 16) (now (links .entry)))) ⌝ }
+    requires { ⌜ (at ≤ end) × (end + 2 ≤ length (now links)) ⌝ }
+    ensures { λ _. ⌜ now (links .exit)
+        ≡ sets (now (links .entry)) at (take (end - at) (drop (at + 2) (now (links .entry)))) ⌝ }
 {
     let mut i = at;
     while i < end {
@@ -66,25 +71,16 @@ fn move_down(links: &mut [u32], at: usize, end: usize)
     }
 }
 
-fn clear_record(links: &mut [u32], at: usize)
-    requires { ⌜ at + 16 ≤ length (now links) ⌝ }
-    ensures { λ _. ⌜ now (links .exit) ≡ sets (now (links .entry)) at (replicate 16 0) ⌝ }
-{
-    let mut i = 0;
-    while i < VLAN_STRIDE {
-        links[at + i] = 0;
-        i += 1;
-    }
-}
-
 // Each later entry moves one down, and the one that was last is filled with zeros.
 pub fn clear_vlan(links: &mut [u32], entry: usize)
-    requires { ⌜ (640 ≤ length (now links)) × (entry < getD (now links) vlanCountWord 0) × (getD (now links) vlanCountWord 0 ≤ 16) ⌝ }
+    requires { ⌜ (fixedWords ≤ length (now links)) × (entry < getD (now links) vlanCountWord 0) ⌝ }
+    requires { ⌜ getD (now links) vlanCountWord 0 ≤ 16 ⌝ }
     ensures { λ _. ⌜ now (links .exit) ≡ clearedVlan (now (links .entry)) entry ⌝ }
 {
     let last = links[VLAN_COUNT] - 1;
     let end = VLAN + VLAN_STRIDE * (last as usize);
     move_down(links, VLAN + VLAN_STRIDE * entry, end);
-    clear_record(links, end);
+    links[end] = 0;
+    links[end + 1] = 0;
     links[VLAN_COUNT] = last;
 }

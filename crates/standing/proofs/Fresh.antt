@@ -10,14 +10,16 @@ use Rattle.rules.specs.Choice.{if_then_else_, sift, nobody}
 use Rattle.rules.specs.Settings.{noOperation}
 use Rattle.rules.proofs.Choice.{on, eqb-sym}
 use Rattle.machine.specs.Waiting.{Waiting, cellsInUse}
-use Rattle.layout.specs.Places.{linkWords, cellBytes, ringOfQueue}
+use Rattle.layout.specs.Places.{linkWords, cellBytes}
 use Rattle.cells.specs.Chains.{count, one}
 use Rattle.cells.specs.Free.{freeCount, firstFree, freeCells}
 use Rattle.cells.specs.Sound.{allWaiting, Sound, FreshCells}
 use Rattle.cells.proofs.Paths.{length-follow}
 use Rattle.cells.proofs.Kept.{waiting-none}
 use Rattle.cells.proofs.Fresh.{fresh-sound}
-use Rattle.queues.specs.Rings.{oldestPlace, countOf, ringOf}
+use Rattle.queues.specs.Lists.{waitingOf}
+use Rattle.queues.proofs.Fresh.{fresh-list, fresh-all}
+use Rattle.queues.proofs.WaitingWords.{words-none}
 use Rattle.standing.specs.Links.{times, rowsOf, Stands}
 use Rattle.standing.specs.LinkTraffic.{linksIn}
 use Rattle.standing.specs.Traffic.{Traffic}
@@ -35,7 +37,7 @@ one-is true = refl
 one-is false = refl
 
 module _ (n : ℕ) (links : List ℕ) (some : 1 ≤ n) (long : linkWords n ≤ length links) (fresh : FreshCells n links)
-    (oldest : (r : ℕ) → r < 20 → oldestPlace links r ≡ 0) (empty : (r : ℕ) → r < 20 → countOf links r ≡ 0) where
+    (empty : (p : ℕ) → p < 5 → waitingOf links p ≡ 0) where
   -- no frame waits, so nobody asks what is held of one
   nobody-waits : ℕ → Waiting
   nobody-waits c =
@@ -50,24 +52,24 @@ module _ (n : ℕ) (links : List ℕ) (some : 1 ≤ n) (long : linkWords n ≤ l
         ports = [];
       }
 
-  none-waiting : (m : ℕ) → m ≤ n → allWaiting links m ≡ []
+  none-waiting : (m : ℕ) → m ≤ n → allWaiting n links m ≡ []
   unfolding allWaiting
   none-waiting zero h = refl
-  none-waiting (suc m) h = rw (none-waiting m (omega arith), waiting-none links m (fresh .ports m (omega arith)))
+  none-waiting (suc m) h = rw (none-waiting m (omega arith), waiting-none n links m (fresh .ports m (omega arith)))
 
   sound : Sound n links
   sound = fresh-sound n links fresh some
 
   stands : Stands n (linksIn n links nobody-waits) []
-  unfolding linksIn rowsOf times cellsInUse ringOf sift
+  unfolding linksIn rowsOf times cellsInUse sift
   stands =
       record {
         ids = [];
         holds = refl;
         rows = nobody;
-        rings = λ p q hp hq. rw (empty (ringOfQueue p q) (omega arith));
-        cells = λ c. omega (arith, times-is-count c (freeCells links), sound .once c, ap (count c) (none-waiting n (omega arith)), one-is (ltb c n));
-        room = omega (arith, length-follow links (freeCount links) (firstFree links), fresh .free);
+        lists = fresh-list n links empty;
+        cells = λ c. omega (arith, times-is-count c (freeCells n links), sound .once c, ap (count c) (none-waiting n (omega arith)), one-is (ltb c n));
+        room = omega (arith, length-follow n links (freeCount links) (firstFree links), fresh .free);
       }
 
   pub fresh-stands : (cells : List ℕ) → cellBytes n ≤ length cells → Traffic n cells links []
@@ -80,7 +82,8 @@ module _ (n : ℕ) (links : List ℕ) (some : 1 ≤ n) (long : linkWords n ≤ l
           waits = nobody;
           long = long;
           sound = sound;
-          oldest = λ r hr. omega (arith, oldest r hr);
+          queues = fresh-all n links empty;
+          waiting-words = words-none links empty;
         };
         cells-long = enough;
         frames = nobody;

@@ -111,11 +111,11 @@ module _ (n : ℕ) (l : Links) (ws : List Waiting) (S : Stands n l ws) (f : Fram
       (rows-kept l new (S .rows) (each-map (λ j h. (rw h, rw h)) others))
       (also (record { more = more; starts = rw (eqb-self i); sized = rw (eqb-self i) fit }) nobody)
 
-  pub in-rings : (p q : ℕ) → p < 5 → q < 4 → new .ring p q ≡ sift (λ j. waitsAt p q (new .held j)) (S .ids ++ (i ∷ []))
+  pub in-lists : (p q : ℕ) → p < 5 → q < 4 → new .list p q ≡ sift (λ j. waitsAt p q (new .held j)) (S .ids ++ (i ∷ []))
   unfolding linkIn sift waitsAt changed
-  in-rings p q hp hq =
-      rw (sift-append (λ j. waitsAt p q (changed i w (l .held) j)) (S .ids) (i ∷ []), sift-other (waitsAt p q) i w (l .held) others, eqb-self i, ← (S .rings p q hp hq))
-      (on (among p (p₀ ∷ ps) && eqb q (f .queue)) (λ e. rw e) (λ e. rw e (sym (append-nil (l .ring p q)))))
+  in-lists p q hp hq =
+      rw (sift-append (λ j. waitsAt p q (changed i w (l .held) j)) (S .ids) (i ∷ []), sift-other (waitsAt p q) i w (l .held) others, eqb-self i, ← (S .lists p q hp hq))
+      (on (among p (p₀ ∷ ps) && eqb q (f .queue)) (λ e. rw e) (λ e. rw e (sym (append-nil (l .list p q)))))
 
   pub in-cells : (c : ℕ) → times c (new .free) + times c (rowsOf (new .row) (S .ids ++ (i ∷ []))) ≡ (if ltb c n then 1 else 0)
   unfolding linkIn rowsOf times changed
@@ -128,7 +128,7 @@ module _ (n : ℕ) (l : Links) (ws : List Waiting) (S : Stands n l ws) (f : Fram
   in-room = omega (arith, in-use-append ws (w ∷ []), ap length cut, length-append (i ∷ more) rest, S .room, fit)
 
   unfoldable pub stands-in : Stands n new (join f (p₀ ∷ ps) ws)
-  stands-in = record { ids = S .ids ++ (i ∷ []); holds = in-holds; rows = in-rows; rings = in-rings; cells = in-cells; room = in-room }
+  stands-in = record { ids = S .ids ++ (i ∷ []); holds = in-holds; rows = in-rows; lists = in-lists; cells = in-cells; room = in-room }
 
 -- ---- a departure
 
@@ -173,12 +173,12 @@ unfolding keepId stay changed
 keep-holds [] i f held later h = map-other i _ held h
 keep-holds (p ∷ ps) i f held later h = rw (map-other i (record { frame = f; ports = p ∷ ps }) held h, eqb-self i)
 
-keep-rings : (r s : ℕ) (ps : List ℕ) (i : ℕ) (f : Frame) (held : ℕ → Waiting) (later : List ℕ) → Not i later
+keep-lists : (r s : ℕ) (ps : List ℕ) (i : ℕ) (f : Frame) (held : ℕ → Waiting) (later : List ℕ) → Not i later
     → sift (λ j. waitsAt r s (changed i (record { frame = f; ports = ps }) held j)) (keepId ps i later)
     ≡ (if among r ps && eqb s (f .queue) then i ∷ sift (λ j. waitsAt r s (held j)) later else sift (λ j. waitsAt r s (held j)) later)
 unfolding keepId sift among waitsAt changed
-keep-rings r s [] i f held later h = sift-other (waitsAt r s) i _ held h
-keep-rings r s (p ∷ ps) i f held later h = rw (sift-other (waitsAt r s) i (record { frame = f; ports = p ∷ ps }) held h, eqb-self i)
+keep-lists r s [] i f held later h = sift-other (waitsAt r s) i _ held h
+keep-lists r s (p ∷ ps) i f held later h = rw (sift-other (waitsAt r s) i (record { frame = f; ports = p ∷ ps }) held h, eqb-self i)
 
 keep-cells : (c : ℕ) (ps : List ℕ) (i : ℕ) (row : ℕ → List ℕ) (free later : List ℕ)
     → times c (freed ps (row i) free) + times c (rowsOf row (keepId ps i later)) ≡ times c free + (times c (row i) + times c (rowsOf row later))
@@ -202,9 +202,9 @@ unfolding keepId
 keep-some [] i h t = t
 keep-some (p ∷ ps) i h t = also (h p ps refl) t
 
-module _ (n : ℕ) (l : Links) (ws : List Waiting) (S : Stands n l ws) (p q i : ℕ) (hp : p < 5) (hq : q < 4) (tail : List ℕ) (head : l .ring p q ≡ i ∷ tail) where
+module _ (n : ℕ) (l : Links) (ws : List Waiting) (S : Stands n l ws) (p q i : ℕ) (hp : p < 5) (hq : q < 4) (tail : List ℕ) (head : l .list p q ≡ i ∷ tail) where
   sp : Split (λ j. waitsAt p q (l .held j)) (S .ids) i tail
-  sp = split (λ j. waitsAt p q (l .held j)) (S .ids) i tail (sym (S .rings p q hp hq) ∙ head)
+  sp = split (λ j. waitsAt p q (l .held j)) (S .ids) i tail (sym (S .lists p q hp hq) ∙ head)
 
   abbrev B : List ℕ
   B = sp .before
@@ -296,30 +296,30 @@ module _ (n : ℕ) (l : Links) (ws : List Waiting) (S : Stands n l ws) (p q i : 
       ))
 
   -- what queue (r, s) holds before and after
-  ring-was : (r s : ℕ) → r < 5 → s < 4 → l .ring r s
+  list-was : (r s : ℕ) → r < 5 → s < 4 → l .list r s
       ≡ sift (λ j. waitsAt r s (l .held j)) B ++ (if waitsAt r s (l .held i) then i ∷ sift (λ j. waitsAt r s (l .held j)) L else sift (λ j. waitsAt r s (l .held j)) L)
   unfolding sift changed
-  ring-was r s hr hs = S .rings r s hr hs ∙ ap (sift (λ j. waitsAt r s (l .held j))) (sp .whole) ∙ sift-append (λ j. waitsAt r s (l .held j)) B (i ∷ L)
+  list-was r s hr hs = S .lists r s hr hs ∙ ap (sift (λ j. waitsAt r s (l .held j))) (sp .whole) ∙ sift-append (λ j. waitsAt r s (l .held j)) B (i ∷ L)
 
-  ring-is : (r s : ℕ) → sift (λ j. waitsAt r s (changed i w′ (l .held) j)) (B ++ keepId left i L)
+  list-is : (r s : ℕ) → sift (λ j. waitsAt r s (changed i w′ (l .held) j)) (B ++ keepId left i L)
       ≡ sift (λ j. waitsAt r s (l .held j)) B
       ++ (if among r left && eqb s (l .held i .frame .queue) then i ∷ sift (λ j. waitsAt r s (l .held j)) L else sift (λ j. waitsAt r s (l .held j)) L)
-  ring-is r s =
+  list-is r s =
       sift-append (λ j. waitsAt r s (changed i w′ (l .held) j)) B (keepId left i L)
-      ∙ ap₂ (_++_) (sift-other (waitsAt r s) i w′ (l .held) not-B) (keep-rings r s left i (l .held i .frame) (l .held) L not-L)
+      ∙ ap₂ (_++_) (sift-other (waitsAt r s) i w′ (l .held) not-B) (keep-lists r s left i (l .held i .frame) (l .held) L not-L)
 
-  out-rings : (r s : ℕ) → r < 5 → s < 4 → out .ring r s ≡ sift (λ j. waitsAt r s (out .held j)) (B ++ keepId left i L)
+  out-lists : (r s : ℕ) → r < 5 → s < 4 → out .list r s ≡ sift (λ j. waitsAt r s (out .held j)) (B ++ keepId left i L)
   unfolding linkOut waitsAt changed
-  out-rings r s hr hs =
+  out-lists r s hr hs =
       on (eqb p r)
       (λ e. rw (sym (eqb-true p r e), eqb-self p) (on (eqb q s)
       (λ d. rw (sym (eqb-true q s d), eqb-self q)
-      (sym (ring-is p q ∙ rw (among-without-same p (l .held i .ports), sift-none (λ j. waitsAt p q (l .held j)) (sp .none)) (sp .onward))))
-      (λ d. rw d (ring-was p s hp hs ∙ rw (other-queue p q s (l .held i) d (sp .passed)) (sym (ring-is p s ∙ rw (among-without-same p (l .held i .ports))))))))
-      (λ e. rw e (ring-was r s hr hs ∙ sym (ring-is r s ∙ rw (among-without-other p r (l .held i .ports) e))))
+      (sym (list-is p q ∙ rw (among-without-same p (l .held i .ports), sift-none (λ j. waitsAt p q (l .held j)) (sp .none)) (sp .onward))))
+      (λ d. rw d (list-was p s hp hs ∙ rw (other-queue p q s (l .held i) d (sp .passed)) (sym (list-is p s ∙ rw (among-without-same p (l .held i .ports))))))))
+      (λ e. rw e (list-was r s hr hs ∙ sym (list-is r s ∙ rw (among-without-other p r (l .held i .ports) e))))
 
   pub stands-out : Stands n out (send p q ws)
-  stands-out = record { ids = B ++ keepId left i L; holds = out-holds; rows = out-rows; rings = out-rings; cells = out-cells; room = out-room }
+  stands-out = record { ids = B ++ keepId left i L; holds = out-holds; rows = out-rows; lists = out-lists; cells = out-cells; room = out-room }
 
   -- what holds of the frames that stay: of those that were there, and of i where a port is left to it
   pub out-each : {P Q : ℕ → Type 0} → Each Q (S .ids) → ((m : ℕ) (ms : List ℕ) → left ≡ m ∷ ms → Q i → P i) → ((d : ℕ) → eqb i d ≡ false → Q d → P d) → Each P (stands-out .ids)

@@ -7,7 +7,7 @@ use Rattle.machine.specs.Waiting.{Waiting}
 use Rattle.standing.specs.Links.{times, Links, rowsOf, Stands}
 use Rattle.standing.specs.TrafficTheorems.{TrafficTheorems}
 use Rattle.standing.proofs.Linked.{stands-in, stands-out}
-use Rattle.standing.proofs.Reading.{ring-is-queue, drain-after-send, drain-empty}
+use Rattle.standing.proofs.Reading.{list-is-queue, drain-after-send, drain-empty}
 
 cells-once : (n : ℕ) (l : Links) (ws : List Waiting) (S : Stands n l ws) (c : ℕ) → c < n
     → times c (l .free) + times c (rowsOf (l .row) (S .ids)) ≡ 1
@@ -17,7 +17,7 @@ pub traffic-theorems : TrafficTheorems
 traffic-theorems =
     record {
       cells-once = cells-once;
-      ring-is-queue = ring-is-queue;
+      list-is-queue = list-is-queue;
       arrival-keeps = λ n l ws S f p ps rest i more cut fit. stands-in n l ws S f p ps rest i more cut fit;
       departure-keeps = λ n l ws S p q i tail hp hq head. stands-out n l ws S p q i hp hq tail head;
       drain-after-send = drain-after-send;

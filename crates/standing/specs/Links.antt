@@ -1,5 +1,6 @@
--- How links stand for the waiting traffic, whatever memory they are read from: the free cells, a row of cells for each frame, what is
--- held of a frame, and a ring for each queue. A frame is known by its first cell. Assumes nothing: these are definitions.
+-- How links stand for the waiting traffic, whatever memory they are read from: the free cells, a row of cells for each
+-- frame, what is held of a frame, and the frames of each queue. A frame is known by its first cell.
+-- Assumes nothing: these are definitions.
 use Prim.Native.Nat.{ℕ, _+_, _<_}
 use mathlib.Core.Path.{_≡_}
 use mathlib.Core.Bool.{_&&_}
@@ -9,17 +10,13 @@ use lib.ListN.{length}
 use Rattle.rules.specs.Choice.{if_then_else_, sift, among, without, Each, changed}
 use Rattle.rules.specs.Outcomes.{Frame}
 use Rattle.machine.specs.Waiting.{Waiting, size, cellsInUse, waitsAt}
-
--- how often a number stands in a list
-unfoldable pub times : ℕ → List ℕ → ℕ
-times c [] = 0
-times c (m ∷ ms) = (if eqb c m then 1 else 0) + times c ms
+unfoldable pub use Rattle.queues.specs.Queued.{times}
 
 pub record Links : Type 0 where
   pub free : List ℕ
   pub row : ℕ → List ℕ
   pub held : ℕ → Waiting
-  pub ring : ℕ → ℕ → List ℕ
+  pub list : ℕ → ℕ → List ℕ
 
 -- the rows of several frames, one after another
 unfoldable pub rowsOf : (ℕ → List ℕ) → List ℕ → List ℕ
@@ -36,7 +33,7 @@ pub record Stands (n : ℕ) (l : Links) (ws : List Waiting) : Type 0 where
   pub ids : List ℕ
   pub holds : map (l .held) ids ≡ ws
   pub rows : Each (RowOk l) ids
-  pub rings : (p q : ℕ) → p < 5 → q < 4 → l .ring p q ≡ sift (λ i. waitsAt p q (l .held i)) ids
+  pub lists : (p q : ℕ) → p < 5 → q < 4 → l .list p q ≡ sift (λ i. waitsAt p q (l .held i)) ids
   -- each cell is free or belongs to exactly one waiting frame
   pub cells : (c : ℕ) → times c (l .free) + times c (rowsOf (l .row) ids) ≡ (if ltb c n then 1 else 0)
   -- as many are free as the waiting frames leave
@@ -49,7 +46,7 @@ linkIn f ports rest i more l =
       free = rest;
       row = changed i (i ∷ more) (l .row);
       held = changed i (record { frame = f; ports = ports }) (l .held);
-      ring = λ p q. if among p ports && eqb q (f .queue) then l .ring p q ++ (i ∷ []) else l .ring p q;
+      list = λ p q. if among p ports && eqb q (f .queue) then l .list p q ++ (i ∷ []) else l .list p q;
     }
 
 -- frame i, the head of queue (p, q) with `tail` after it, leaves port p; its cells are free when no port is left
@@ -63,5 +60,5 @@ linkOut p q i tail l =
       free = freed (without p (l .held i .ports)) (l .row i) (l .free);
       row = l .row;
       held = changed i (record { frame = l .held i .frame; ports = without p (l .held i .ports) }) (l .held);
-      ring = λ r s. if eqb p r && eqb q s then tail else l .ring r s;
+      list = λ r s. if eqb p r && eqb q s then tail else l .list r s;
     }

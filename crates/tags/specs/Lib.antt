@@ -1,4 +1,2 @@
 pub mod Numbers
 pub mod Reading
-pub mod Stacks
-pub mod Laws

@@ -25,6 +25,6 @@ module _ (l : List ℕ) (port : ℕ) where
       unfolding drainCall drainRefusals drainLines first
       by-damage e = rw (links, le-ltb 4 port known, e)
 
-      pub by-draining : canDrainAll (cellCount l) port l ≡ true → (doneWith (copies port l) 0, drainAll (cellCount l) port l) ≡ drainCall l port
+      pub by-draining : canDrainAll (cellCount l) port l ≡ true → (doneWith (copies (cellCount l) port l) 0, drainAll (cellCount l) port l) ≡ drainCall l port
       unfolding drainCall drainRefusals drainLines first
       by-draining e = rw (links, le-ltb 4 port known, e)

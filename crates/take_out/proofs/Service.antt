@@ -1,39 +1,65 @@
--- The search for the queue that is served, turn by turn. Assumes nothing.
-use Prim.Native.Nat.{ℕ, suc, _-_, _≤_, _<_}
-use mathlib.Core.Path.{_≡_, refl, sym, ap, _∙_}
+-- The search for the queue that is served, by its outcomes. Assumes nothing.
+use Prim.Native.Nat.{ℕ, _≤_, _<_}
+use mathlib.Core.Path.{_≡_, sym}
+use mathlib.Core.Bool.{true, false}
 use mathlib.Core.List.{List}
 use native.Mathlib.Omega.{arith}
-use Rattle.layout.specs.Places.{ringOfQueue}
-use Rattle.queues.specs.Rings.{oldestOf}
-use Rattle.queues.specs.declared.Waiting.the-variants as Ring
-use Rattle.take_out.specs.Serving.{servedOr, servedBelow, served}
+use lib.Dec.{ltb}
+use borrow.Author.Tests.{lt-ltb, le-ltb, ltb-true}
+use Rattle.rules.proofs.Choice.{on}
+use Rattle.queues.specs.Lists.{waitingOf, oldestOf, bit, waitingInRange, highestOf}
+use Rattle.queues.specs.declared.Highest.{Highest}
+use Rattle.queues.specs.declared.Highest.the-variants.{Queue, Nothing}
+use Rattle.queues.proofs.WaitingBits.{highest-waits}
+use Rattle.take_out.specs.Serving.{servedOf, served}
 use Rattle.take_out.specs.declared.serving.Next.the-variants.{Frame, Nobody, Damaged}
 
 module _ (n port : ℕ) (l : List ℕ) where
-  pub search-starts : servedBelow 4 n port l ≡ served n port l
+  pub word-out : waitingInRange l port ≡ false → Damaged ≡ served n port l
   unfolding served
-  search-starts = refl
+  word-out e = rw e
 
-  pub search-ends : (queue : ℕ) → queue ≤ 0 → Nobody ≡ servedBelow queue n port l
-  unfolding servedBelow
-  search-ends queue h = let none : queue ≡ 0 = omega arith in rw none
+  module _ (word : waitingInRange l port ≡ true) where
+    pub none-waits : highestOf (waitingOf l port) ≡ Nothing → Nobody ≡ served n port l
+    unfolding served servedOf
+    none-waits e = rw (word, e)
 
-  module _ (queue : ℕ) (more : 0 < queue) where
-    one-less : queue ≡ suc (queue - 1)
-    one-less = omega arith
+    module _ (q c : ℕ) (highest : highestOf (waitingOf l port) ≡ Queue q) (is : c ≡ oldestOf l port q) where
+      pub oldest-out : n ≤ c → Damaged ≡ served n port l
+      unfolding served servedOf
+      oldest-out h = rw (word, highest, ← is, le-ltb c n h)
 
-    turn : servedBelow queue n port l ≡ servedOr (queue - 1) (oldestOf n (ringOfQueue port (queue - 1)) l) (servedBelow (queue - 1) n port l)
-    unfolding servedBelow
-    turn = ap (λ (k : ℕ). servedBelow k n port l) one-less
+      pub oldest-served : c < n → Frame q c ≡ served n port l
+      unfolding served servedOf
+      oldest-served h = rw (word, highest, ← is, lt-ltb c n h)
 
-    pub met-first : (c : ℕ) → oldestOf n (ringOfQueue port (queue - 1)) l ≡ Ring.First c → Frame (queue - 1) c ≡ servedBelow queue n port l
-    unfolding servedOr
-    met-first c e = sym (turn ∙ rw e)
+-- what a frame that is served is
+pub record Serves (n port : ℕ) (l : List ℕ) (q c : ℕ) : Type 0 where
+  pub queue : q < 4
+  pub waits : bit (waitingOf l port) q ≡ true
+  pub oldest : oldestOf l port q ≡ c
+  pub below : c < n
 
-    pub met-damage : oldestOf n (ringOfQueue port (queue - 1)) l ≡ Ring.Damaged → Damaged ≡ servedBelow queue n port l
-    unfolding servedOr
-    met-damage e = sym (turn ∙ rw e)
+served-of : (n port : ℕ) (l : List ℕ) (h : Highest) (q c : ℕ) → highestOf (waitingOf l port) ≡ h → servedOf n port l h ≡ Frame q c → Serves n port l q c
+unfolding servedOf
+served-of n port l (Queue k) q c is e =
+    on (ltb (oldestOf l port k) n)
+    (λ b. let f : Frame k (oldestOf l port k) ≡ Frame q c = rw b at e in
+    let same : k ≡ q = cc in
+    let first : oldestOf l port k ≡ c = cc in
+    let w = highest-waits (waitingOf l port) k is in
+    record {
+      queue = rw (sym same) (w .0);
+      waits = rw (sym same) (w .1);
+      oldest = rw (sym same) first;
+      below = rw (sym first) (ltb-true (oldestOf l port k) n b);
+    })
+    (λ b. let f : Damaged ≡ Frame q c = rw b at e in let z : _≡_ {A = ℕ} 0 1 = cc in absurd (omega arith))
+served-of n port l Nothing q c is e = let z : _≡_ {A = ℕ} 0 1 = cc in absurd (omega arith)
 
-    pub met-nothing : oldestOf n (ringOfQueue port (queue - 1)) l ≡ Ring.Nothing → servedBelow (queue - 1) n port l ≡ servedBelow queue n port l
-    unfolding servedOr
-    met-nothing e = sym (turn ∙ rw e)
+pub serves : (n port : ℕ) (l : List ℕ) (q c : ℕ) → served n port l ≡ Frame q c → Serves n port l q c
+unfolding served
+serves n port l q c e =
+    on (waitingInRange l port)
+    (λ b. served-of n port l (highestOf (waitingOf l port)) q c (let r : highestOf (waitingOf l port) ≡ highestOf (waitingOf l port) = cc in r) (rw b at e))
+    (λ b. let f : Damaged ≡ Frame q c = rw b at e in let z : _≡_ {A = ℕ} 0 1 = cc in absurd (omega arith))

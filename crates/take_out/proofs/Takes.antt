@@ -1,97 +1,91 @@
 -- The outcomes of the call take, path by path. Assumes nothing.
 use Prim.Native.Nat.{ℕ, zero, suc, _≤_, _<_}
-use mathlib.Core.Path.{_≡_, refl, ap}
+use mathlib.Core.Path.{_≡_, refl, sym, ap, _∙_}
 use mathlib.Core.Logic.{_⊎_, inl, inr, ⊎-elim}
-use mathlib.Core.Bool.{true, false}
+use mathlib.Core.Bool.{Bool, true, false, _&&_}
 use mathlib.Core.List.{List}
 use native.Mathlib.Omega.{arith}
 use lib.ListN.{length}
-use borrow.Author.Tests.{lt-ltb, le-ltb}
+use borrow.Author.Tests.{lt-ltb, le-ltb, le-leb}
 use Rattle.rules.specs.Lines.{first}
 use Rattle.rules.specs.Refusals.{memoryLength, portAboveFour, shortBuffer, memoryDamaged, takeLines}
 use Rattle.rules.proofs.Choice.{on, and-left, and-right, and-false}
-use Rattle.rules.specs.Arguments.{portOf}
+use Rattle.rules.specs.Arguments.{bit, portOf}
 use Rattle.rules.specs.Counters.{counterNumber}
 use Rattle.machine.specs.TakeOut.{leavingStack, leavingBytes}
-use Rattle.layout.specs.Places.{ringOfQueue}
 use Rattle.lent.specs.declared.Answer.{Answer}
 use Rattle.lent.specs.Lengths.{cellCount, linksFit, cellsFit}
 use Rattle.lent.specs.Answers.{refusedBy, doneWith}
-use Rattle.queues.specs.Rings.{oldestOf, popped}
-use Rattle.queues.specs.declared.Waiting.{Waiting}
-use Rattle.queues.specs.declared.Waiting.the-variants as Ring
-use Rattle.settings.specs.SettingsOf.{portsOf, settingsOf}
-use Rattle.take_out.specs.Serving.{servedOr, servedBelow, served}
+use Rattle.queues.specs.Lists.{poppedAt}
+use Rattle.settings.specs.SettingsOf as Settings
+use Rattle.settings.specs.SettingsOf.{settingsOf}
+use Rattle.take_out.specs.Serving.{served}
 use Rattle.words.specs.Counters.{bumped}
-use Rattle.take_out.specs.Leaving.{canLeave, departed, left}
+use Rattle.cells.specs.Free.{sizeOf, portsOf, isFrame}
+use Rattle.cells.specs.declared.stored.StoredHeader.{StoredHeader}
+use Rattle.leaving_bytes.proofs.Headers.{header}
+use Rattle.departures.proofs.Copies as Copies
+use Rattle.take_out.specs.Leaving.{hasRoom, canLeave, departed, left}
 use Rattle.take_out.specs.Frames.{storedAt, frameOf, leavingOf, leavingFrom, written, headerFits, canSend}
 use Rattle.take_out.specs.Take.{leavingAt, sentFrom, takenFrame, takenOrDamaged, damagedIn, takenFrom, takeRefusals, takeBy, takeCall}
 use Rattle.take_out.specs.declared.serving.Next.{Next}
 use Rattle.take_out.specs.declared.serving.Next.the-variants.{Frame, Nobody, Damaged}
 
--- ---- what is served
-
-served-or : (k q c : ℕ) (w : Waiting) (others : Next) → servedOr k w others ≡ Frame q c → ((w ≡ Ring.First c) × (q ≡ k)) ⊎ (others ≡ Frame q c)
-unfolding servedOr
-served-or k q c (Ring.First d) others e = inl (cc, cc)
-served-or k q c Ring.Nothing others e = inr e
-served-or k q c Ring.Damaged others e = let z : _≡_ {A = ℕ} 0 1 = cc in absurd (omega arith)
-
-pub record Serves (n port : ℕ) (l : List ℕ) (k q c : ℕ) : Type 0 where
-  pub queue : q < k
-  pub oldest : oldestOf n (ringOfQueue port q) l ≡ Ring.First c
-
-served-below : (n port : ℕ) (l : List ℕ) (k q c : ℕ) → servedBelow k n port l ≡ Frame q c → Serves n port l k q c
-unfolding servedBelow
-served-below n port l zero q c e = let z : _≡_ {A = ℕ} 0 1 = cc in absurd (omega arith)
-served-below n port l (suc k) q c e =
-    ⊎-elim
-    (λ w. record { queue = omega (arith, w .1); oldest = rw (w .1) (w .0) })
-    (λ w. let s = served-below n port l k q c w in record { queue = omega (arith, s .queue); oldest = s .oldest })
-    (served-or k q c (oldestOf n (ringOfQueue port k) l) (servedBelow k n port l) e)
-
-pub serves : (n port : ℕ) (l : List ℕ) (q c : ℕ) → served n port l ≡ Frame q c → Serves n port l 4 q c
-unfolding served
-serves n port l q c e = served-below n port l 4 q c e
-
 -- ---- a frame is sent
 
 -- memory's settings are the rules', and its frame is the machine's
-pub leaving-at : (cells l : List ℕ) (port queue c : ℕ) → port < 5 → leavingFrom cells l port c ≡ leavingAt cells l port queue c
-unfolding leavingAt leavingBytes leavingStack leavingOf frameOf settingsOf portsOf portOf
-leaving-at cells l port queue c h = rw (lt-ltb port 5 h)
+pub leaving-at : (n : ℕ) (cells l : List ℕ) (port queue c : ℕ) → port < 5 → leavingFrom n cells l port c ≡ leavingAt n cells l port queue c
+unfolding leavingAt leavingBytes leavingStack leavingOf frameOf settingsOf Settings.portsOf portOf
+leaving-at n cells l port queue c h = rw (lt-ltb port 5 h)
 
 pub sent-is :
     (cells : List ℕ) (n : ℕ) (l : List ℕ) (port : ℕ) (out : List ℕ) (queue c : ℕ) → port < 5
     → (answer : Answer) (count : ℕ) (buffer departing leaving : List ℕ)
     → answer ≡ doneWith count queue
-    → (count, buffer) ≡ written out (leavingFrom cells l port c)
-    → departing ≡ departed port c l
-    → leaving ≡ bumped port 19 (popped n (ringOfQueue port queue) departing)
+    → (count, buffer) ≡ written out (leavingFrom n cells l port c)
+    → departing ≡ departed n port c l
+    → leaving ≡ bumped port 19 (poppedAt port queue c departing)
     → (answer, (leaving, buffer)) ≡ takenFrame cells n l port out queue c
 unfolding takenFrame sentFrom left counterNumber
 sent-is cells n l port out queue c known answer count buffer departing leaving a b d e =
-    let bytes = leaving-at cells l port queue c known in
+    let bytes = leaving-at n cells l port queue c known in
     rw (a, e, d, ap (λ (p : ℕ × List ℕ). p .0) b, ap (λ (p : ℕ × List ℕ). p .1) b, bytes)
 
 -- ---- the tests of the frame
+
+and-true : (a : Bool) → (a && true) ≡ a
+and-true true = refl
+and-true false = refl
+
+module _ (n port c : ℕ) (l : List ℕ) (h : StoredHeader) where
+  pub no-fit : headerFits h port c l ≡ false → false ≡ (canLeave n port c l && headerFits h port c l)
+  no-fit e = rw (e, and-false)
+
+  module _ (below : c < n) (fits : headerFits h port c l ≡ true) where
+    -- a size that is that of the length is in range
+    sized : isFrame c l ≡ true
+    unfolding isFrame
+    sized =
+        let f = header h port c l fits in
+        let some : 1 ≤ sizeOf l c = omega (arith, f .size, f .short) in
+        let few : sizeOf l c ≤ 52 = omega (arith, f .size, f .long) in
+        rw (le-leb 1 (sizeOf l c) some, le-leb (sizeOf l c) 52 few)
+
+    pub no-copy : bit (portsOf l c) port ≡ false → false ≡ (canLeave n port c l && headerFits h port c l)
+    no-copy e = rw (← (Copies.no-copy n port c l below sized e))
+
+    pub fits-room : bit (portsOf l c) port ≡ true → hasRoom n port c l ≡ (canLeave n port c l && headerFits h port c l)
+    fits-room e = Copies.room-asked n port c l below sized e ∙ (rw (fits, and-true))
 
 module _ (cells : List ℕ) (n port c : ℕ) (l : List ℕ) where
   pub can-send : canSend cells n port c l ≡ true → (canLeave n port c l ≡ true) × (headerFits (storedAt cells c) port c l ≡ true)
   unfolding canSend
   can-send e = (and-left (canLeave n port c l) _ e, and-right (canLeave n port c l) _ e)
 
-  pub sends : canLeave n port c l ≡ true → headerFits (storedAt cells c) port c l ≡ true → canSend cells n port c l ≡ true
+  -- the tests with the stored header that was read
+  pub by-header : (h : StoredHeader) (b : Bool) → h ≡ storedAt cells c → b ≡ (canLeave n port c l && headerFits h port c l) → canSend cells n port c l ≡ b
   unfolding canSend
-  sends e f = rw (e, f)
-
-  pub no-leave : canLeave n port c l ≡ false → canSend cells n port c l ≡ false
-  unfolding canSend
-  no-leave e = rw e
-
-  pub no-fit : headerFits (storedAt cells c) port c l ≡ false → canSend cells n port c l ≡ false
-  unfolding canSend
-  no-fit e = rw (e, and-false)
+  by-header h b e f = sym (rw (← e) f)
 
   module _ (out : List ℕ) (queue : ℕ) where
     pub frame-taken : canSend cells n port c l ≡ true → takenFrame cells n l port out queue c ≡ takenOrDamaged cells n l port out queue c

@@ -7,7 +7,8 @@ use Rattle.rules.specs.Refusals.{Refusal, drainLines}
 use Rattle.lent.specs.Lengths.{cellCount, linksFit}
 use Rattle.lent.specs.Answers.{lengthLine, damageLine, orRefused, doneWith}
 use Rattle.lent.specs.declared.Answer.{Answer}
-unfoldable pub use Rattle.departures.specs.Draining.{allCanLeave, inRange, canDrain, canDrainAll, dropped, drainOldest, drainOne, drainMany, drainQueue, drainAll, copies}
+unfoldable pub use Rattle.departures.specs.Draining.{allCanLeave, canDrain, canDrainAll, dropped}
+unfoldable pub use Rattle.departures.specs.Draining.{drainOne, drainQueue, queueCopies, drainAll, copies}
 
 unfoldable pub drainRefusals : List ℕ → ℕ → List (Line Refusal)
 drainRefusals links port =
@@ -15,4 +16,5 @@ drainRefusals links port =
 
 unfoldable pub drainCall : List ℕ → ℕ → Answer × List ℕ
 drainCall links port =
-    orRefused (first (drainRefusals links port)) links (doneWith (copies port links) 0, drainAll (cellCount links) port links)
+    orRefused (first (drainRefusals links port)) links
+    (doneWith (copies (cellCount links) port links) 0, drainAll (cellCount links) port links)

@@ -1,8 +1,10 @@
--- All that a take meets of the frame; the frame that memory holds is as `leaving_bytes` has it. Assumes nothing: these are definitions.
+-- All that a take meets of the frame; the frame that memory holds is as `leaving_bytes` has it. Assumes nothing: these
+-- are definitions.
 use Prim.Native.Nat.{ℕ}
 use mathlib.Core.Bool.{Bool, _&&_}
 use mathlib.Core.List.{List}
-pub use Rattle.leaving_bytes.specs.Frames.{storedAt, bytesAt, frameAt, operationOfPort, leavingFrom, operationFits, written}
+pub use Rattle.leaving_bytes.specs.Frames.{storedAt, bytesAt, frameAt, operationOfPort, leavingFrom, operationFits}
+pub use Rattle.leaving_bytes.specs.Frames.{written}
 unfoldable pub use Rattle.leaving_bytes.specs.Frames.{frameOf, leavingOf, headerFits}
 use Rattle.take_out.specs.Leaving.{canLeave}
 

@@ -1,23 +1,20 @@
 -- Which frame leaves: "the oldest frame of its highest-numbered waiting queue". Assumes nothing: these are definitions.
-use Prim.Native.Nat.{ℕ, zero, suc}
+use Prim.Native.Nat.{ℕ}
 use mathlib.Core.List.{List}
-use Rattle.layout.specs.Places.{ringOfQueue}
-use Rattle.queues.specs.Rings.{oldestOf}
-use Rattle.queues.specs.declared.Waiting.{Waiting}
-use Rattle.queues.specs.declared.Waiting.the-variants as Ring
+use lib.Dec.{ltb}
+use Rattle.rules.specs.Choice.{if_then_else_}
+use Rattle.queues.specs.Lists.{waitingOf, oldestOf, waitingInRange, highestOf}
+use Rattle.queues.specs.declared.Highest.{Highest}
+use Rattle.queues.specs.declared.Highest.the-variants.{Queue, Nothing}
 use Rattle.take_out.specs.declared.serving.Next.{Next}
 use Rattle.take_out.specs.declared.serving.Next.the-variants.{Frame, Nobody, Damaged}
 
--- a queue that has an entry is served, and after one that is empty the others are asked
-unfoldable pub servedOr : ℕ → Waiting → Next → Next
-servedOr queue (Ring.First c) others = Frame queue c
-servedOr queue Ring.Nothing others = others
-servedOr queue Ring.Damaged others = Damaged
+-- the oldest frame of the queue that is served, whose word is met
+unfoldable pub servedOf : ℕ → ℕ → List ℕ → Highest → Next
+servedOf n port links (Queue q) = if ltb (oldestOf links port q) n then Frame q (oldestOf links port q) else Damaged
+servedOf n port links Nothing = Nobody
 
--- the queues below this one, the highest first
-unfoldable pub servedBelow : ℕ → ℕ → ℕ → List ℕ → Next
-servedBelow zero n port links = Nobody
-servedBelow (suc queue) n port links = servedOr queue (oldestOf n (ringOfQueue port queue) links) (servedBelow queue n port links)
-
+-- the port's word of waiting queues is met first
 unfoldable pub served : ℕ → ℕ → List ℕ → Next
-served n port links = servedBelow 4 n port links
+served n port links =
+    if waitingInRange links port then servedOf n port links (highestOf (waitingOf links port)) else Damaged

@@ -24,24 +24,25 @@ abbrev pub Memory : Type 0
 Memory = List ℕ × List ℕ
 
 -- the frame's bytes as they leave this port
-unfoldable pub leavingAt : List ℕ → List ℕ → ℕ → ℕ → ℕ → List ℕ
-leavingAt cells links port queue c = leavingBytes (settingsOf links) port (frameAt cells links c queue)
+unfoldable pub leavingAt : ℕ → List ℕ → List ℕ → ℕ → ℕ → ℕ → List ℕ
+leavingAt n cells links port queue c = leavingBytes (settingsOf links) port (frameAt n cells links c queue)
 
 -- link memory after the frame was sent
 unfoldable pub sentFrom : ℕ → ℕ → ℕ → ℕ → List ℕ → List ℕ
-sentFrom n port queue c links = left n port queue sent (departed port c links)
+sentFrom n port queue c links = left port queue c sent (departed n port c links)
 
 -- "the rest of the buffer keeps its bytes"
 unfoldable pub takenFrame : List ℕ → ℕ → List ℕ → ℕ → List ℕ → ℕ → ℕ → Answer × Memory
 takenFrame cells n links port out queue c = (
-  doneWith (length (leavingAt cells links port queue c)) queue,
-  (sentFrom n port queue c links, sets out 0 (leavingAt cells links port queue c)),
+  doneWith (length (leavingAt n cells links port queue c)) queue,
+  (sentFrom n port queue c links, sets out 0 (leavingAt n cells links port queue c)),
 )
 
 -- what a frame that is served gives: refusal 10 is here the only one left
 unfoldable pub takenOrDamaged : List ℕ → ℕ → List ℕ → ℕ → List ℕ → ℕ → ℕ → Answer × Memory
 takenOrDamaged cells n links port out queue c =
-    if canSend cells n port c links then takenFrame cells n links port out queue c else (refusedBy memoryDamaged, (links, out))
+    if canSend cells n port c links then takenFrame cells n links port out queue c else
+    (refusedBy memoryDamaged, (links, out))
 
 -- ---- the call, by what is served
 
@@ -65,7 +66,8 @@ takeRefusals cells links port out next =
 
 unfoldable pub takeBy : List ℕ → List ℕ → ℕ → List ℕ → Next → Answer × Memory
 takeBy cells links port out next =
-    orRefused (first (takeRefusals cells links port out next)) (links, out) (takenFrom cells (cellCount links) links port out next)
+    orRefused (first (takeRefusals cells links port out next)) (links, out)
+    (takenFrom cells (cellCount links) links port out next)
 
 unfoldable pub takeCall : List ℕ → List ℕ → ℕ → List ℕ → Answer × Memory
 takeCall cells links port out = takeBy cells links port out (served (cellCount links) port links)

@@ -12,10 +12,11 @@ use lent::Answer;
 mod serving; // which queue is served
 mod taking; // a frame is taken
 
-// "A take at a port writes the oldest frame of its highest-numbered waiting queue; the rest of the buffer keeps its bytes."
-// Answers the length written, and the queue.
+// "A take at a port writes the oldest frame of its highest-numbered waiting queue; the rest of the buffer keeps its
+// bytes." Answers the length written, and the queue.
 pub fn take_into(cells: &[u8], links: &mut [u32], port: u32, out: &mut [u8]) -> Answer
-    ensures { λ r. ⌜ (r, (now (links .exit), now (out .exit))) ≡ takeCall (now (cells .entry)) (now (links .entry)) port (now (out .entry)) ⌝ }
+    ensures { λ r. ⌜ (r, (now (links .exit), now (out .exit)))
+        ≡ takeCall (now (cells .entry)) (now (links .entry)) port (now (out .entry)) ⌝ }
     ensures { λ r. ⌜ r .x ≤ length (now (out .entry)) ⌝ }
 {
     if !lent::links_fit(links) {
@@ -41,7 +42,8 @@ pub fn take_into(cells: &[u8], links: &mut [u32], port: u32, out: &mut [u8]) -> 
 
 // "Hands back exactly the written part of the lent buffer": an empty one at an empty port and at a refusal.
 pub fn take<'a>(cells: &[u8], links: &mut [u32], port: u32, out: &'a mut [u8]) -> &'a mut [u8]
-    ensures { λ r. ⌜ (now (links .exit), now r) ≡ handedBack (takeCall (now (cells .entry)) (now (links .entry)) port (now (out .entry))) ⌝ }
+    ensures { λ r. ⌜ (now (links .exit), now r)
+        ≡ handedBack (takeCall (now (cells .entry)) (now (links .entry)) port (now (out .entry))) ⌝ }
     ensures { λ r. ⌜ r .ptr ≡ out .entry .ptr ⌝ }
 {
     let answer = take_into(cells, links, port, out);
@@ -63,7 +65,6 @@ pub fn drain(links: &mut [u32], port: u32) -> Answer
     if !departures::draining::can_drain_all(links, n, port) {
         return lent::refused(10);
     }
-    let copies = departures::draining::copies(links, n, port);
-    departures::draining::drain_all(links, n, port);
+    let copies = departures::draining::drain_all(links, n, port);
     lent::done(copies, 0)
 }

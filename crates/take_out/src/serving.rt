@@ -4,7 +4,7 @@ ghost use Prim.Native.Nat.{_≤_, _<_};
 ghost use lib.ListN.{length};
 ghost use Rattle.layout.specs.Places.{linkWords};
 ghost use Rattle.take_out.specs.Serving as spec;
-use queues::Waiting;
+use queues::Highest;
 
 // The frame that leaves a port next: its queue, and its first cell.
 pub enum Next {
@@ -13,28 +13,21 @@ pub enum Next {
     Damaged,
 }
 
-// The highest queue that is not empty, and its oldest frame.
+// The highest queue that waits, and its oldest frame.
 pub fn served(links: &[u32], n: usize, port: usize) -> Next
     requires { ⌜ (linkWords n ≤ length (now links)) × (port < 5) ⌝ }
     ensures { λ r. ⌜ r ≡ spec.served n port (now (links .entry)) ⌝ }
 {
-    let mut queue = 4;
-    while 0 < queue {
-        let ring = 4 * port + (queue - 1);
-        let first = queues::oldest(links, n, ring);
-        match first {
-            Waiting::First(cell) => {
-                return Next::Frame {
-                    queue: (queue - 1) as u32,
-                    cell,
-                };
-            }
-            Waiting::Nothing => {}
-            Waiting::Damaged => {
-                return Next::Damaged;
-            }
-        }
-        queue -= 1;
+    if !queues::in_range(links, port) {
+        return Next::Damaged;
     }
-    Next::Nobody
+    let highest = queues::highest_waiting(links, port);
+    let Highest::Queue(queue) = highest else {
+        return Next::Nobody;
+    };
+    let cell = queues::oldest_word(links, port, queue);
+    if n <= cell as usize {
+        return Next::Damaged;
+    }
+    Next::Frame { queue, cell }
 }

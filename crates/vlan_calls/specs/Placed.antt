@@ -13,7 +13,8 @@ use Rattle.vlan_calls.specs.Vlans.{there, damaged, noEntryLeft, vlanWrit
 
 unfoldable pub vlanPlaced : List ℕ → VlanNumbers → Answer × List ℕ
 vlanPlaced links new =
-    orRefused (first (line vlansInUse (noEntryLeft (foundVlan links (new .vid)) links) ∷ damageLine (damaged (foundVlan links (new .vid))) ∷ [])) links
+    orRefused (first (line vlansInUse (noEntryLeft (foundVlan links (new .vid)) links) ∷ damageLine
+    (damaged (foundVlan links (new .vid))) ∷ [])) links
     (doneWith 0 0, vlanWritten (foundVlan links (new .vid)) links new)
 
 -- and once the VID is found nowhere
@@ -23,5 +24,6 @@ vlanAdded links new =
 
 unfoldable pub vlanCleared : List ℕ → ℕ → Answer × List ℕ
 vlanCleared links vid =
-    orRefused (first (line vlanNotThere (not (there (foundVlan links vid))) ∷ damageLine (damaged (foundVlan links vid)) ∷ [])) links
+    orRefused (first (line vlanNotThere (not (there (foundVlan links vid))) ∷ damageLine (damaged (foundVlan links vid))
+    ∷ [])) links
     (doneWith 0 0, vlanErased (foundVlan links vid) links)

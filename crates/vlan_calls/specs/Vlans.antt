@@ -65,4 +65,5 @@ clearVlanRefusals links vid =
     ++ (damageLine (damaged (foundVlan links vid)) ∷ [])
 
 unfoldable pub clearVlanCall : List ℕ → ℕ → Answer × List ℕ
-clearVlanCall links vid = orRefused (first (clearVlanRefusals links vid)) links (doneWith 0 0, vlanErased (foundVlan links vid) links)
+clearVlanCall links vid =
+    orRefused (first (clearVlanRefusals links vid)) links (doneWith 0 0, vlanErased (foundVlan links vid) links)

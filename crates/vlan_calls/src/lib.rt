@@ -1,28 +1,31 @@
 // The calls on the VLAN table.
+use layout::VLAN_COUNT;
 use lent::Answer;
 use lent::done;
 use lent::links_fit;
 use lent::refused;
-use settings::operation::OperationSettings;
+use packed::operation::OperationSettings;
+use packed::vlan::VlanSettings;
+use packed::vlan::vlan_in_range;
 use settings::table::Found;
 use settings::table::add_vlan;
 use settings::table::find_vlan;
-use settings::vlan::VlanSettings;
-use settings::vlan::vlan_in_range;
 use settings::vlan::write_vlan;
 ghost use mathlib.Core.Path.{_≡_};
 ghost use Prim.Native.Nat.{_≤_};
 ghost use lib.ListN.{length};
 ghost use Rattle.rules.specs.Arguments.{isVid};
-ghost use Rattle.settings.specs.Records.{vlanIs};
+ghost use Rattle.layout.specs.Places.{fixedWords};
+ghost use Rattle.packed.specs.Ranges.{VlanRange};
+ghost use Rattle.packed.specs.Ports.{vlanIs};
 ghost use Rattle.vlan_calls.specs.Vlans.{vlanCall, clearVlanCall};
 ghost use Rattle.vlan_calls.specs.Placed.{vlanAdded, vlanPlaced, vlanCleared};
 
 fn add_entry(links: &mut [u32], settings: VlanSettings) -> Answer
-    requires { ⌜ 640 ≤ length (now links) ⌝ }
+    requires { ⌜ (fixedWords ≤ length (now links)) × VlanRange (vlanIs settings) ⌝ }
     ensures { λ r. ⌜ (r, now (links .exit)) ≡ vlanAdded (now (links .entry)) (vlanIs settings) ⌝ }
 {
-    if links[30] < 16 {
+    if links[VLAN_COUNT] < 16 {
         add_vlan(links, settings);
         return done(0, 0);
     }
@@ -30,7 +33,7 @@ fn add_entry(links: &mut [u32], settings: VlanSettings) -> Answer
 }
 
 fn place_vlan(links: &mut [u32], settings: VlanSettings) -> Answer
-    requires { ⌜ 640 ≤ length (now links) ⌝ }
+    requires { ⌜ (fixedWords ≤ length (now links)) × VlanRange (vlanIs settings) ⌝ }
     ensures { λ r. ⌜ (r, now (links .exit)) ≡ vlanPlaced (now (links .entry)) (vlanIs settings) ⌝ }
 {
     let vid = settings.vid;
@@ -69,7 +72,22 @@ pub fn set_vlan(
     op_pcp: u32,
     op_dei: u32,
 ) -> Answer
-    ensures { λ r. ⌜ (r, now (links .exit)) ≡ vlanCall (now (links .entry)) (record { vid = vid; members = members; gid = gid; operation = record { kind = kind; type = «tag_type»; vidSource = «vid_source»; pcpSource = «pcp_source»; vid = «op_vid»; pcp = «op_pcp»; dei = «op_dei» } }) ⌝ }
+    ensures { λ r. ⌜ (r, now (links .exit))
+        ≡ vlanCall (now (links .entry)) (record {
+          vid = vid;
+          members = members;
+          gid = gid;
+          operation = record {
+            kind = kind;
+            type = «tag_type»;
+            vidSource = «vid_source»;
+            pcpSource = «pcp_source»;
+            vid = «op_vid»;
+            pcp =
+                «op_pcp»;
+            dei = «op_dei»;
+          };
+        }) ⌝ }
 {
     let operation = OperationSettings {
         kind,
@@ -98,7 +116,7 @@ fn is_vid(vid: u32) -> bool
 }
 
 fn erase_vlan(links: &mut [u32], vid: u32) -> Answer
-    requires { ⌜ 640 ≤ length (now links) ⌝ }
+    requires { ⌜ fixedWords ≤ length (now links) ⌝ }
     ensures { λ r. ⌜ (r, now (links .exit)) ≡ vlanCleared (now (links .entry)) vid ⌝ }
 {
     match find_vlan(links, vid) {

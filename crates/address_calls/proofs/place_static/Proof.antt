@@ -7,8 +7,8 @@ use borrow.Author.Needs.{needs}
 use Rattle.address_calls.proofs.place_static.Statement.{statement}
 use Rattle.address_calls.proofs.place_static.Tie as tie
 
-look-up-requires : tie.Need-look-up-requires
-look-up-requires c κs = search needs
+whole-search-requires : tie.Need-whole-search-requires
+whole-search-requires c κs = search needs
 
 is-full-requires : tie.Need-is-full-requires
 is-full-requires c κs = search needs
@@ -23,7 +23,7 @@ returns : tie.Need-returns
 unfolding refusalNumber
 returns c =
     let s = c .before .before in
-    static-full _ _ _ (s .before .look-up .ensures) (sym (s .is-full .ensures) ∙ c .before .if1 .taken) (c .refused .ensures)
+    static-full _ _ _ (s .before .whole-search .ensures) (sym (s .is-full .ensures) ∙ c .before .if1 .taken) (c .refused .ensures)
 
 is-damaged-requires : tie.Need-is-damaged-requires
 is-damaged-requires c κs = search needs
@@ -39,11 +39,11 @@ unfolding refusalNumber
 returns-2 c =
     let s = c .before .before in
     let f = s .before in
-    static-damaged _ _ _ (f .before .before .look-up .ensures) (sym (f .before .is-full .ensures) ∙ f .if1 .left)
+    static-damaged _ _ _ (f .before .before .whole-search .ensures) (sym (f .before .is-full .ensures) ∙ f .if1 .left)
     (sym (s .is-damaged .ensures) ∙ c .before .if2 .taken) (c .refused2 .ensures)
 
 set-static-requires : tie.Need-set-static-requires
-set-static-requires c κs = (found-inside _ _ (c .before .before .before .before .before .look-up .ensures) (omega arith), omega arith)
+set-static-requires c κs = (found-inside _ _ (c .before .before .before .before .before .whole-search .ensures) (omega arith), omega arith)
 
 done-requires : tie.Need-done-requires
 done-requires c κs = search needs
@@ -56,14 +56,14 @@ returns-3 c =
     let s = c .before .before .before in
     let d = s .before .before in
     let f = d .before .before in
-    static-placed _ _ _ (f .before .before .look-up .ensures) (sym (f .before .is-full .ensures) ∙ f .if1 .left) (sym (d .before .is-damaged .ensures) ∙ d .if2 .left)
+    static-placed _ _ _ (f .before .before .whole-search .ensures) (sym (f .before .is-full .ensures) ∙ f .if1 .left) (sym (d .before .is-damaged .ensures) ∙ d .if2 .left)
     (s .set-static .ensures) (c .done .ensures)
 
 pub place-static-spec : {M : Type 1} → statement M
 place-static-spec =
     tie.close
     (tie.spec
-    look-up-requires
+    whole-search-requires
     is-full-requires
     refused-requires
     same-length

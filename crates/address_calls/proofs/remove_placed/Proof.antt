@@ -7,8 +7,8 @@ use borrow.Author.Needs.{needs}
 use Rattle.address_calls.proofs.remove_placed.Statement.{statement}
 use Rattle.address_calls.proofs.remove_placed.Tie as tie
 
-look-up-requires : tie.Need-look-up-requires
-look-up-requires c κs = search needs
+whole-search-requires : tie.Need-whole-search-requires
+whole-search-requires c κs = search needs
 
 is-missing-requires : tie.Need-is-missing-requires
 is-missing-requires c κs = search needs
@@ -23,7 +23,7 @@ returns : tie.Need-returns
 unfolding refusalNumber
 returns c =
     let s = c .before .before in
-    remove-missing _ _ (s .before .look-up .ensures) (sym (s .is-missing .ensures) ∙ c .before .if1 .taken) (c .refused .ensures)
+    remove-missing _ _ (s .before .whole-search .ensures) (sym (s .is-missing .ensures) ∙ c .before .if1 .taken) (c .refused .ensures)
 
 is-damaged-requires : tie.Need-is-damaged-requires
 is-damaged-requires c κs = search needs
@@ -39,11 +39,11 @@ unfolding refusalNumber
 returns-2 c =
     let s = c .before .before in
     let f = s .before in
-    remove-damaged _ _ (f .before .before .look-up .ensures) (sym (f .before .is-missing .ensures) ∙ f .if1 .left)
+    remove-damaged _ _ (f .before .before .whole-search .ensures) (sym (f .before .is-missing .ensures) ∙ f .if1 .left)
     (sym (s .is-damaged .ensures) ∙ c .before .if2 .taken) (c .refused2 .ensures)
 
 remove-requires : tie.Need-remove-requires
-remove-requires c κs = found-inside _ _ (c .before .before .before .before .before .look-up .ensures) (omega arith)
+remove-requires c κs = found-inside _ _ (c .before .before .before .before .before .whole-search .ensures) (omega arith)
 
 done-requires : tie.Need-done-requires
 done-requires c κs = search needs
@@ -56,14 +56,14 @@ returns-3 c =
     let s = c .before .before .before in
     let d = s .before .before in
     let f = d .before .before in
-    remove-removed _ _ (f .before .before .look-up .ensures) (sym (f .before .is-missing .ensures) ∙ f .if1 .left) (sym (d .before .is-damaged .ensures) ∙ d .if2 .left)
+    remove-removed _ _ (f .before .before .whole-search .ensures) (sym (f .before .is-missing .ensures) ∙ f .if1 .left) (sym (d .before .is-damaged .ensures) ∙ d .if2 .left)
     (s .remove .ensures) (c .done .ensures)
 
 pub remove-placed-spec : {M : Type 1} → statement M
 remove-placed-spec =
     tie.close
     (tie.spec
-    look-up-requires
+    whole-search-requires
     is-missing-requires
     refused-requires
     same-length

@@ -1,5 +1,7 @@
 -- `address_numbers::older_number` meets its contract. Assumes nothing.
-use borrow.Author.Tests.{eq-eqb, ne-eqb}
+use mathlib.Core.Path.{sym, _∙_}
+use native.Mathlib.Omega.{arith}
+use Rattle.address_numbers.proofs.Matches.{marked-odd}
 use Rattle.address_numbers.specs.Changes.{olderNumber}
 use borrow.Author.Needs.{needs}
 use Rattle.address_numbers.proofs.older_number.Statement.{statement}
@@ -12,16 +14,21 @@ returns : tie.Need-returns
 unfolding olderNumber
 returns c = rw (← c .before .is-static .ensures, c .if1 .taken)
 
+is-marked-requires : tie.Need-is-marked-requires
+is-marked-requires c κs = search needs
+
 sub-result : tie.Need-sub-result
-sub-result c = search needs
+sub-result c = omega (arith, marked-odd (c .before .before .before .before .args .number) (sym (c .before .is-marked .ensures) ∙ c .if2 .taken))
 
 returns-2 : tie.Need-returns-2
 unfolding olderNumber
-returns-2 c = rw (← c .before .before .is-static .ensures, c .before .if1 .left, eq-eqb _ _ (c .if2 .taken))
+returns-2 c = rw (← c .before .before .before .is-static .ensures, c .before .before .if1 .left, ← c .before .is-marked .ensures, c .if2 .taken)
 
 returns-3 : tie.Need-returns-3
 unfolding olderNumber
-returns-3 c = rw (← c .before .before .is-static .ensures, c .before .if1 .left, ne-eqb _ _ (c .if2 .left))
+returns-3 c = rw (← c .before .before .before .is-static .ensures, c .before .before .if1 .left, ← c .before .is-marked .ensures, c .if2 .left)
 
 pub older-number-spec : {M : Type 1} → statement M
-older-number-spec = tie.close (tie.spec is-static-requires returns sub-result returns-2 returns-3)
+older-number-spec =
+    tie.close
+    (tie.spec is-static-requires returns is-marked-requires sub-result returns-2 returns-3)

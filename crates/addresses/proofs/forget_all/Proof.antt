@@ -5,7 +5,7 @@ use mathlib.Core.Path.{_≡_, refl, _∙_}
 use native.Mathlib.Omega.{arith}
 use lib.ListN.{length, drop, replicate, length-set, length-replicate, drop-of-length-le}
 use lib.Seq.{sets}
-use Rattle.slices.specs.Runs.{fill-turn, sets-whole}
+use Rattle.slices.proofs.Runs.{fill-turn, sets-whole}
 use Rattle.addresses.proofs.forget_all.Statement.{statement}
 use Rattle.addresses.proofs.forget_all.Tie as tie
 

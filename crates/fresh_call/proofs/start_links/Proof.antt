@@ -10,11 +10,11 @@ cast-start-switch c = search needs
 start-switch-requires : tie.Need-start-switch-requires
 start-switch-requires c κs = search needs
 
-start-ports-requires : tie.Need-start-ports-requires
-start-ports-requires c κs = search needs
-
 start-vlans-requires : tie.Need-start-vlans-requires
 start-vlans-requires c κs = search needs
+
+start-ports-requires : tie.Need-start-ports-requires
+start-ports-requires c κs = search needs
 
 start-cells-requires : tie.Need-start-cells-requires
 start-cells-requires c κs = search needs
@@ -24,10 +24,10 @@ same-length c = search needs
 
 returns : tie.Need-returns
 returns c =
-    let vlans = c .before .before .before .before .before .before in
-    let ports = vlans .before .before .before .before in
-    let switch = ports .before .before .before .before in
-    rw (c .before .before .start-cells .ensures, vlans .start-vlans .ensures, ports .start-ports .ensures, switch .start-switch .ensures)
+    let ports = c .before .before .before .before .before .before in
+    let vlans = ports .before .before .before .before in
+    let switch = vlans .before .before .before .before in
+    rw (c .before .before .start-cells .ensures, ports .start-ports .ensures, vlans .start-vlans .ensures, switch .start-switch .ensures)
     (fresh-run _ _ (switch .before .before .before .pre .1))
 
 pub start-links-spec : {M : Type 1} → statement M
@@ -36,8 +36,8 @@ start-links-spec =
     (tie.spec
     cast-start-switch
     start-switch-requires
-    start-ports-requires
     start-vlans-requires
+    start-ports-requires
     start-cells-requires
     same-length
     returns)

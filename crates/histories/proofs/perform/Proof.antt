@@ -1,6 +1,5 @@
 -- `histories::perform` meets its contract: in each arm `run` of the call asked is what the C function of its name promises. Assumes nothing.
 use borrow.Author.Needs.{needs}
-use Rattle.settings.specs.Records.{operationIs, portIs, vlanIs}
 use Rattle.histories.specs.Runs.{run}
 use Rattle.histories.specs.Asked.{asked}
 use Rattle.histories.proofs.perform.Statement.{statement}
@@ -23,11 +22,11 @@ unfolding run asked
 returns-4 c = rw (c .before .before .before .call3 .given .1, ← c .gufhrandi-counter .ensures)
 
 returns-5 : tie.Need-returns-5
-unfolding run asked portIs operationIs
+unfolding run asked
 returns-5 c = let called = c .before .before in rw (called .before .before .before .call4 .given .1, ← called .gufhrandi-port .ensures)
 
 returns-6 : tie.Need-returns-6
-unfolding run asked vlanIs operationIs
+unfolding run asked
 returns-6 c = let called = c .before .before in rw (called .before .before .before .call5 .given .1, ← called .gufhrandi-vlan .ensures)
 
 returns-7 : tie.Need-returns-7

@@ -2,7 +2,7 @@
 use mathlib.Core.Path.{refl}
 use native.Mathlib.Omega.{arith}
 use Rattle.lent.specs.Lengths.{cellsFit}
-use Rattle.lent.specs.Fits.{links-fit}
+use Rattle.lent.proofs.Fits.{links-fit}
 use Rattle.lent.proofs.cells_fit.Statement.{statement}
 use Rattle.lent.proofs.cells_fit.Tie as tie
 

@@ -2,7 +2,7 @@
 use borrow.Author.Needs.{needs}
 use mathlib.Core.Path.{sym, _∙_}
 use native.Mathlib.Omega.{arith}
-use Rattle.lent.specs.Fits.{empty-does-not-fit, no-count-does-not-fit, count-fits-by-length}
+use Rattle.lent.proofs.Fits.{empty-does-not-fit, no-count-does-not-fit, count-fits-by-length}
 use Rattle.lent.proofs.links_fit.Statement.{statement}
 use Rattle.lent.proofs.links_fit.Tie as tie
 

@@ -6,7 +6,7 @@ use native.Mathlib.Omega.{arith}
 use borrow.Author.Tests.{not-true, not-false}
 use borrow.Author.Needs.{needs}
 use Rattle.rules.specs.Refusals.{refusalNumber}
-use Rattle.lent.specs.Fits.{links-fit}
+use Rattle.lent.proofs.Fits.{links-fit}
 use Rattle.lent.specs.Answers.{doneWith}
 use Rattle.lent.specs.declared.Answer.{Answer}
 use Rattle.take_out.proofs.Drains.{by-links, by-port, by-damage, by-draining}
@@ -43,7 +43,9 @@ cast-n : tie.Need-cast-n
 cast-n c = omega (arith, c .slice-known2 .given 0)
 
 can-drain-all-requires : tie.Need-can-drain-all-requires
-can-drain-all-requires c κs = omega (arith, links-fit (c .before .before .before .before .before .before .before .args .links .now) (sym (c .before .before .before .before .links-fit .ensures) ∙ not-false _ (c .before .before .before .if1 .left)) .long, c .before .before .if2 .left)
+can-drain-all-requires c κs =
+    let f = links-fit (c .before .before .before .before .before .before .before .args .links .now) (sym (c .before .before .before .before .links-fit .ensures) ∙ not-false _ (c .before .before .before .if1 .left)) in
+    omega (arith, f, c .before .before .if2 .left)
 
 refused-requires-3 : tie.Need-refused-requires-3
 refused-requires-3 c κs = search needs
@@ -55,11 +57,10 @@ returns-3 : tie.Need-returns-3
 unfolding refusalNumber
 returns-3 c = let s = c .before .before .before .before .before .before .before .before .before .before in ap (λ (a : Answer). (a, s .args .links .now)) (c .refused3 .ensures) ∙ by-damage (s .args .links .now) (s .args .port) (sym (c .before .before .before .before .before .before .before .links-fit .ensures) ∙ not-false _ (c .before .before .before .before .before .before .if1 .left)) (c .before .before .before .before .before .if2 .left) (sym (c .before .before .can-drain-all .ensures) ∙ not-true _ (c .before .if3 .taken))
 
-copies-requires : tie.Need-copies-requires
-copies-requires c κs = let f = links-fit (c .before .before .before .before .before .before .before .before .before .before .args .links .now) (sym (c .before .before .before .before .before .before .before .links-fit .ensures) ∙ not-false _ (c .before .before .before .before .before .before .if1 .left)) in (omega (arith, f .long), f .most, omega (arith, c .before .before .before .before .before .if2 .left), (sym (c .before .before .can-drain-all .ensures) ∙ not-false _ (c .before .if3 .left)))
-
 drain-all-requires : tie.Need-drain-all-requires
-drain-all-requires c κs = let f = links-fit (c .before .before .before .before .before .before .before .before .before .before .before .before .args .links .now) (sym (c .before .before .before .before .before .before .before .before .before .links-fit .ensures) ∙ not-false _ (c .before .before .before .before .before .before .before .before .if1 .left)) in (omega (arith, f .long), f .most, omega (arith, c .before .before .before .before .before .before .before .if2 .left))
+drain-all-requires c κs =
+    let f = links-fit (c .before .before .before .before .before .before .before .before .before .before .args .links .now) (sym (c .before .before .before .before .before .before .before .links-fit .ensures) ∙ not-false _ (c .before .before .before .before .before .before .if1 .left)) in
+    omega (arith, f, c .before .before .before .before .before .if2 .left)
 
 done-requires : tie.Need-done-requires
 done-requires c κs = search needs
@@ -68,7 +69,10 @@ same-length-4 : tie.Need-same-length-4
 same-length-4 c = search needs
 
 returns-4 : tie.Need-returns-4
-returns-4 c = let s = c .before .before .before .before .before .before .before .before .before .before .before .before .before .before .before .before in ap₂ (λ (a : Answer) (m : List ℕ). (a, m)) (c .done .ensures ∙ ap (λ (x : ℕ). doneWith x 0) (c .before .before .before .before .before .copies .ensures)) (c .before .before .before .drain-all .ensures) ∙ by-draining (s .args .links .now) (s .args .port) (sym (c .before .before .before .before .before .before .before .before .before .before .before .before .before .links-fit .ensures) ∙ not-false _ (c .before .before .before .before .before .before .before .before .before .before .before .before .if1 .left)) (c .before .before .before .before .before .before .before .before .before .before .before .if2 .left) (sym (c .before .before .before .before .before .before .before .before .can-drain-all .ensures) ∙ not-false _ (c .before .before .before .before .before .before .before .if3 .left))
+returns-4 c =
+    let s = c .before .before .before .before .before .before .before .before .before .before .before .before .before .before in
+    ap₂ (λ (a : Answer) (m : List ℕ). (a, m)) (c .done .ensures ∙ ap (λ (x : ℕ × List ℕ). doneWith (x .0) 0) (c .before .before .before .drain-all .ensures)) (ap (λ (x : ℕ × List ℕ). x .1) (c .before .before .before .drain-all .ensures))
+    ∙ by-draining (s .args .links .now) (s .args .port) (sym (c .before .before .before .before .before .before .before .before .before .before .before .links-fit .ensures) ∙ not-false _ (c .before .before .before .before .before .before .before .before .before .before .if1 .left)) (c .before .before .before .before .before .before .before .before .before .if2 .left) (sym (c .before .before .before .before .before .before .can-drain-all .ensures) ∙ not-false _ (c .before .before .before .before .before .if3 .left))
 
 pub drain-spec : {M : Type 1} → statement M
 drain-spec =
@@ -87,7 +91,6 @@ drain-spec =
     refused-requires-3
     same-length-3
     returns-3
-    copies-requires
     drain-all-requires
     done-requires
     same-length-4

@@ -4,14 +4,14 @@ use native.Mathlib.Omega.{arith}
 use borrow.Author.Tests.{not-true, not-false}
 use borrow.Author.Needs.{needs}
 use Rattle.rules.specs.Refusals.{refusalNumber}
-use Rattle.lent.specs.Fits.{links-fit, cells-fit}
+use Rattle.lent.proofs.Fits.{links-fit, cells-fit}
 use Rattle.lent.specs.Lengths.{cellCount}
 use Rattle.lent.specs.declared.Answer.{Answer}
-use Rattle.queues.proofs.Answers.{oldest-first}
 use Rattle.take_out.specs.declared.serving.Next.the-variants.{Nobody, Damaged}
 use Rattle.take_out.specs.declared.serving.Next.{Next}
 use Rattle.take_out.specs.Serving.{served}
-use Rattle.take_out.proofs.Takes.{serves, served-is, by-links, by-cells, by-port, by-buffer, of-frame, of-nobody, of-damage}
+use Rattle.take_out.proofs.Service.{serves}
+use Rattle.take_out.proofs.Takes.{served-is, by-links, by-cells, by-port, by-buffer, of-frame, of-nobody, of-damage}
 use Rattle.take_out.proofs.take_into.Statement.{statement}
 use Rattle.take_out.proofs.take_into.Tie as tie
 
@@ -81,8 +81,7 @@ take-frame-requires c κs = let s = c .before .before .before .before .before .b
     let f = links-fit (s .args .links .now) (sym (c .before .before .before .before .before .before .before .before .before .before .before .before .before .before .links-fit .ensures) ∙ not-false _ (c .before .before .before .before .before .before .before .before .before .before .before .before .before .if1 .left)) in
     let g = cells-fit (s .args .cells .now) (s .args .links .now) (sym (c .before .before .before .before .before .before .before .before .before .before .before .cells-fit .ensures) ∙ not-false _ (c .before .before .before .before .before .before .before .before .before .before .if2 .left)) in
     let v = serves (cellCount (s .args .links .now)) (s .args .port) (s .args .links .now) _ _ (sym (c .before .before .before .before .before .served .ensures) ∙ c .before .before .before .next .given .1) in
-    let o = oldest-first _ _ _ _ (v .oldest) in
-    ((omega (arith, f .long), omega (arith, g), c .before .before .before .before .before .before .before .before .if4 .left, f .most, omega (arith, c .before .before .before .before .before .before .before .before .before .if3 .left), v .queue), (o .place, o .some, o .below))
+    ((omega (arith, f .long), omega (arith, g), c .before .before .before .before .before .before .before .before .if4 .left, f .most, omega (arith, c .before .before .before .before .before .before .before .before .before .if3 .left), v .queue), v .below)
 
 enum-told : tie.Need-enum-told
 enum-told c = search needs

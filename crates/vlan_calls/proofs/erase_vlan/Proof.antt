@@ -2,7 +2,7 @@
 use mathlib.Core.Path.{sym, _∙_}
 use native.Mathlib.Omega.{arith}
 use Rattle.rules.specs.Refusals.{refusalNumber}
-use Rattle.settings.specs.FindLaws.{found-there}
+use Rattle.settings.proofs.FindLaws.{found-there}
 use Rattle.vlan_calls.proofs.VlanEnds.{cleared-there, cleared-missing, cleared-damaged}
 use borrow.Author.Needs.{needs}
 use Rattle.vlan_calls.proofs.erase_vlan.Statement.{statement}

@@ -2,8 +2,7 @@
 use mathlib.Core.Path.{sym, _∙_}
 use native.Mathlib.Omega.{arith}
 use Rattle.rules.specs.Refusals.{refusalNumber}
-use Rattle.settings.specs.Records.{vlanIs}
-use Rattle.settings.specs.FindLaws.{found-there}
+use Rattle.settings.proofs.FindLaws.{found-there}
 use Rattle.vlan_calls.proofs.VlanEnds.{placed-there, placed-new, placed-damaged}
 use borrow.Author.Needs.{needs}
 use Rattle.vlan_calls.proofs.place_vlan.Statement.{statement}
@@ -39,7 +38,6 @@ same-length : tie.Need-same-length
 same-length c = search needs
 
 returns : tie.Need-returns
-unfolding vlanIs
 returns c =
     let w = c .before .before .before in
     let m = w .before .before .before in
@@ -49,7 +47,6 @@ same-length-2 : tie.Need-same-length-2
 same-length-2 c = search needs
 
 returns-2 : tie.Need-returns-2
-unfolding vlanIs
 returns-2 c =
     let a = c .before .before in
     let m = a .before .before in
@@ -59,7 +56,7 @@ same-length-3 : tie.Need-same-length-3
 same-length-3 c = search needs
 
 returns-3 : tie.Need-returns-3
-unfolding refusalNumber vlanIs
+unfolding refusalNumber
 returns-3 c =
     let m = c .before in
     placed-damaged _ _ (sym (m .before .before .find-vlan .ensures) ∙ m .enum-told2 .given .1) (c .refused .ensures)

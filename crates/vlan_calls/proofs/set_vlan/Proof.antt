@@ -1,5 +1,4 @@
 -- `vlan_calls::set_vlan` meets its contract: it puts its numbers together. Assumes nothing.
-use Rattle.settings.specs.Records.{operationIs, vlanIs}
 use borrow.Author.Needs.{needs}
 use Rattle.vlan_calls.proofs.set_vlan.Statement.{statement}
 use Rattle.vlan_calls.proofs.set_vlan.Tie as tie
@@ -11,7 +10,6 @@ same-length : tie.Need-same-length
 same-length c = search needs
 
 returns : tie.Need-returns
-unfolding operationIs vlanIs
 returns c = c .before .before .store-vlan .ensures
 
 pub set-vlan-spec : {M : Type 1} → statement M

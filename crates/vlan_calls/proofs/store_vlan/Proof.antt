@@ -3,6 +3,7 @@ use mathlib.Core.Path.{sym, _∙_}
 use Rattle.rules.specs.Refusals.{refusalNumber, vlanLines}
 use Rattle.vlan_calls.specs.Vlans.{vlanRefusals, vlanCall}
 use Rattle.vlan_calls.specs.Placed.{vlanPlaced}
+use Rattle.packed.proofs.RangeLaws.{vlan-range}
 use Rattle.lent.proofs.Ends.{fixed-part, too-short, long-enough, out-of-range, in-range}
 use borrow.Author.Needs.{needs}
 use Rattle.vlan_calls.proofs.store_vlan.Statement.{statement}
@@ -16,8 +17,10 @@ vlan-in-range-requires c κs = search needs
 
 place-vlan-requires : tie.Need-place-vlan-requires
 place-vlan-requires c κs =
-    let f = c .before .before .before in
-    fixed-part _ (sym (f .before .links-fit .ensures) ∙ f .if1 .taken)
+    let f = c .before .before .before in (
+      fixed-part _ (sym (f .before .links-fit .ensures) ∙ f .if1 .taken),
+      vlan-range _ (sym (c .before .before .vlan-in-range .ensures) ∙ c .before .if2 .taken),
+    )
 
 same-length : tie.Need-same-length
 same-length c = search needs

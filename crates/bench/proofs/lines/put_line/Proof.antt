@@ -1,7 +1,7 @@
 -- `bench::lines::put_line` meets its contract: a line has at most 57 bytes. Assumes nothing.
 use native.Mathlib.Omega.{arith}
 use borrow.Author.Needs.{needs}
-use Rattle.records.specs.LineLaws.{written-place, line-length}
+use Rattle.records.proofs.LineLaws.{written-place, line-length}
 use Rattle.bench.proofs.Lining.{line-put}
 use Rattle.bench.proofs.lines.put_line.Statement.{statement}
 use Rattle.bench.proofs.lines.put_line.Tie as tie

@@ -1,5 +1,6 @@
 -- `cells::free::can_take` meets its contract: each return has the tests that led there. Assumes nothing.
-use borrow.Author.Tests.{le-leb, lt-leb}
+use borrow.Author.Tests.{lt-leb, le-leb, lt-ltb, le-ltb}
+use Rattle.layout.specs.Places.{freeCountWord, firstFreeWord}
 use Rattle.cells.specs.Free.{roomFor}
 use native.Mathlib.Omega.{arith}
 use borrow.Author.Needs.{needs}
@@ -10,7 +11,7 @@ shared-slice-read-free : tie.Need-shared-slice-read-free
 shared-slice-read-free c = search needs
 
 cast-free : tie.Need-cast-free
-cast-free c = omega (arith, c .shared-slice-known2 .given 31)
+cast-free c = omega (arith, c .shared-slice-known .given freeCountWord)
 
 returns : tie.Need-returns
 unfolding roomFor
@@ -23,16 +24,16 @@ returns-2 c = rw (le-leb _ _ (c .before .if1 .left), lt-leb _ _ (c .if2 .taken))
 shared-slice-read-first : tie.Need-shared-slice-read-first
 shared-slice-read-first c = search needs
 
-all-below-requires : tie.Need-all-below-requires
-all-below-requires c κs = search needs
+cast-first : tie.Need-cast-first
+cast-first c = omega (arith, c .shared-slice-known2 .given firstFreeWord)
 
 returns-3 : tie.Need-returns-3
 unfolding roomFor
-returns-3 c = rw (le-leb _ _ (c .before .before .before .before .if1 .left), le-leb _ _ (c .before .before .before .if2 .left), ← c .before .all-below .ensures, c .if3 .taken)
+returns-3 c = rw (le-leb _ _ (c .before .before .before .if1 .left), le-leb _ _ (c .before .before .if2 .left), lt-ltb _ _ (c .if3 .taken))
 
 returns-4 : tie.Need-returns-4
 unfolding roomFor
-returns-4 c = rw (le-leb _ _ (c .before .before .before .before .if1 .left), le-leb _ _ (c .before .before .before .if2 .left), ← c .before .all-below .ensures, c .if3 .left)
+returns-4 c = rw (le-leb _ _ (c .before .before .before .if1 .left), le-leb _ _ (c .before .before .if2 .left), le-ltb _ _ (c .if3 .left))
 
 pub can-take-spec : {M : Type 1} → statement M
 can-take-spec =
@@ -43,6 +44,6 @@ can-take-spec =
     returns
     returns-2
     shared-slice-read-first
-    all-below-requires
+    cast-first
     returns-3
     returns-4)

@@ -1,18 +1,20 @@
 -- `departures::leaving::waits_at` meets its contract. Assumes nothing.
-use borrow.Author.Needs.{needs}
+use native.Mathlib.Omega.{arith}
 use Rattle.rules.specs.Arguments.{bit}
+use Rattle.departures.proofs.Copies.{word-bit}
+use borrow.Author.Needs.{needs}
 use Rattle.departures.proofs.leaving.waits_at.Statement.{statement}
 use Rattle.departures.proofs.leaving.waits_at.Tie as tie
 
-ports-requires : tie.Need-ports-requires
-ports-requires c κs = search needs
+word-requires : tie.Need-word-requires
+word-requires c κs = search needs
 
 shr-result : tie.Need-shr-result
 shr-result c = search needs
 
 returns : tie.Need-returns
 unfolding bit
-returns c = rw (c .ports .ensures)
+returns c = let s = c .before .before in rw (c .word .ensures, word-bit (s .args .port) _ (omega arith))
 
 pub waits-at-spec : {M : Type 1} → statement M
-waits-at-spec = tie.close (tie.spec ports-requires shr-result returns)
+waits-at-spec = tie.close (tie.spec word-requires shr-result returns)

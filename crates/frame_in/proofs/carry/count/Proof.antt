@@ -10,8 +10,8 @@ bump-requires c κs = search needs
 count-if-requires : tie.Need-count-if-requires
 count-if-requires c κs = search needs
 
-count-tests-requires : tie.Need-count-tests-requires
-count-tests-requires c κs = search needs
+count-falls-requires : tie.Need-count-falls-requires
+count-falls-requires c κs = search needs
 
 count-outcome-requires : tie.Need-count-outcome-requires
 count-outcome-requires c κs = search needs
@@ -20,7 +20,7 @@ same-length : tie.Need-same-length
 same-length c = search needs
 
 returns : tie.Need-returns
-returns c = counted-all _ _ _ _ (c .before .before .before .before .before .before .before .before .before .before .before .before .before .before .bump .ensures) (c .before .before .before .before .before .before .before .before .before .before .count-if .ensures) (c .before .before .before .before .before .before .count-tests .ensures) (c .before .before .count-outcome .ensures)
+returns c = counted-all _ _ _ _ (c .before .before .before .before .before .before .before .before .before .before .before .before .before .before .bump .ensures) (c .before .before .before .before .before .before .before .before .before .before .count-if .ensures) (c .before .before .before .before .before .before .count-falls .ensures) (c .before .before .count-outcome .ensures)
 
 pub count-spec : {M : Type 1} → statement M
 count-spec =
@@ -28,7 +28,7 @@ count-spec =
     (tie.spec
     bump-requires
     count-if-requires
-    count-tests-requires
+    count-falls-requires
     count-outcome-requires
     same-length
     returns)

@@ -7,14 +7,14 @@ use Rattle.frame_in.proofs.carry.count_outcome.Tie as tie
 bump-requires : tie.Need-bump-requires
 bump-requires c κs = search needs
 
-count-all-queued-requires : tie.Need-count-all-queued-requires
-count-all-queued-requires c κs = search needs
+count-each-requires : tie.Need-count-each-requires
+count-each-requires c κs = search needs
 
 same-length : tie.Need-same-length
 same-length c = search needs
 
 returns : tie.Need-returns
-returns c = outcome-queued _ _ _ _ (c .before .before .before .before .before .before .before .before .if1 .taken) (c .before .before .before .before .before .before .bump .ensures) (c .before .before .count-all-queued .ensures)
+returns c = outcome-queued _ _ _ _ (c .before .before .before .before .before .before .before .before .if1 .taken) (c .before .before .before .before .before .before .bump .ensures) (c .before .before .count-each .ensures)
 
 bump-requires-2 : tie.Need-bump-requires-2
 bump-requires-2 c κs = search needs
@@ -30,7 +30,7 @@ count-outcome-spec =
     tie.close
     (tie.spec
     bump-requires
-    count-all-queued-requires
+    count-each-requires
     same-length
     returns
     bump-requires-2

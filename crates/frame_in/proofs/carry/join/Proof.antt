@@ -1,9 +1,11 @@
 -- `frame_in::carry::join` meets its contract. Assumes nothing.
 use mathlib.Core.Path.{ap, _∙_}
 use native.Mathlib.Omega.{arith}
-use Rattle.frame_in.proofs.Joins.{store-below, rings-after, join-is}
+use Rattle.frame_in.proofs.Joins.{first-below, after-is, join-is}
 use Prim.Native.Nat.{ℕ}
-use Rattle.cells.specs.Free.{roomFor}
+use lib.ListN.{length}
+use Rattle.rules.specs.Cells.{cells}
+use Rattle.cells.specs.Free.{firstFree, roomFor}
 use borrow.Author.Needs.{needs}
 use Rattle.frame_in.proofs.carry.join.Statement.{statement}
 use Rattle.frame_in.proofs.carry.join.Tie as tie
@@ -14,17 +16,18 @@ cells-of-requires c κs = search needs
 slice-read-first : tie.Need-slice-read-first
 slice-read-first c = search needs
 
-header-bytes-requires : tie.Need-header-bytes-requires
-header-bytes-requires c κs = search needs
-
 store-requires : tie.Need-store-requires
-store-requires c κs = let s = c .before .before .before .before .before .before .before .before .before in (omega (arith, s .pre .0, c .before .before .before .before .before .cells-of .ensures), store-below _ _ _ _ (c .before .before .before .before .before .cells-of .ensures) (s .pre .1 .0))
+store-requires c κs = let s = c .before .before .before .before .before .before .before .before in omega (arith, s .pre .0, first-below (s .args .n) (cells (length (s .args .frame .now))) (s .args .links .now) (s .pre .1))
 
 take-cells-requires : tie.Need-take-cells-requires
-take-cells-requires c κs = let s = c .before .before .before .before .before .before .before .before .before .before .before .before .before in (omega (arith, s .pre .0), omega (arith, c .before .before .before .before .before .before .before .before .before .cells-of .ensures), ap (λ (k : ℕ). roomFor (s .args .n) k (s .args .links .now)) (c .before .before .before .before .before .before .before .before .before .cells-of .ensures) ∙ s .pre .1 .0)
+take-cells-requires c κs =
+    let s = c .before .before .before .before .before .before .before .before .before .before .before .before in
+    let at-store = c .before .before .before in
+    let k-is = at-store .before .before .before .before .before .cells-of .ensures in
+    ((omega (arith, s .pre .0), omega (arith, s .pre .0, k-is), s .pre .0 .5, ap (λ (k : ℕ). roomFor (s .args .n) k (s .args .links .now)) k-is ∙ s .pre .1), after-is (s .args .n) (s .args .links .now) (cells (length (s .args .frame .now))) (firstFree (s .args .links .now)) _ (s .args .cells .now) (at-store .store .ensures) k-is)
 
 push-all-requires : tie.Need-push-all-requires
-push-all-requires c κs = let s = c .before .before .before .before .before .before .before .before .before .before .before .before .before .before .before .before .before .before in (omega (arith, s .pre .0, c .before .before .before .before .take-cells .kept), rings-after _ _ _ _ _ _ (c .before .before .before .before .take-cells .ensures) (s .pre .0 .4) (s .pre .1 .1))
+push-all-requires c κs = let s = c .before .before .before .before .before .before .before .before .before .before .before .before .before .before .before .before in omega (arith, s .pre .0, c .before .before .before .take-cells .kept, first-below (s .args .n) (cells (length (s .args .frame .now))) (s .args .links .now) (s .pre .1))
 
 same-length : tie.Need-same-length
 same-length c = search needs
@@ -33,7 +36,9 @@ same-length-2 : tie.Need-same-length-2
 same-length-2 c = search needs
 
 returns : tie.Need-returns
-returns c = let s = c .before .before .before .before .before .before .before .before .before .before .before .before .before .before .before .before .before .before .before .before .before in join-is (s .args .n) (s .args .plan) (s .args .frame .now) (s .args .cells .now) (s .args .links .now) (c .before .before .before .before .before .before .before .before .before .before .before .before .before .before .before .before .before .cells-of .result) (c .before .before .before .before .before .before .before .before .before .before .before .before .before .before .before .header-bytes .result) (c .before .before .before .before .before .before .before .before .before .before .before .before .before .before .before .before .before .cells-of .ensures) (c .before .before .before .before .before .before .before .before .before .before .before .before .before .before .before .header-bytes .ensures) (c .before .before .before .before .before .before .before .before .before .before .before .store .ensures) (c .before .before .before .before .before .before .before .take-cells .ensures) (c .before .before .push-all .ensures)
+returns c =
+    let s = c .before .before .before .before .before .before .before .before .before .before .before .before .before .before .before .before .before .before .before in
+    join-is (s .args .n) (s .args .plan) (s .args .frame .now) (s .args .cells .now) (s .args .links .now) (c .before .before .before .before .before .before .before .before .before .before .before .before .before .before .before .cells-of .result) (c .before .before .before .before .before .before .before .before .before .before .before .before .before .before .before .cells-of .ensures) (c .before .before .before .before .before .before .before .before .before .before .store .ensures) (c .before .before .before .before .before .before .take-cells .ensures) (c .before .before .push-all .ensures)
 
 pub join-spec : {M : Type 1} → statement M
 join-spec =
@@ -41,7 +46,6 @@ join-spec =
     (tie.spec
     cells-of-requires
     slice-read-first
-    header-bytes-requires
     store-requires
     take-cells-requires
     push-all-requires

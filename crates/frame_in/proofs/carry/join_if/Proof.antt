@@ -6,7 +6,7 @@ use Rattle.frame_in.proofs.carry.join_if.Statement.{statement}
 use Rattle.frame_in.proofs.carry.join_if.Tie as tie
 
 join-requires : tie.Need-join-requires
-join-requires c κs = let r = c .before .before .before .before .before .before .before .pre in let z = c .before .before .if1 .taken in ((r .links-long, r .cells-long, r .most, r .longest z, r .queue), (r .room z, r .rings z))
+join-requires c κs = let r = c .before .before .before .before .before .before .before .pre in let z = c .before .before .if1 .taken in ((r .links-long, r .cells-long, r .most, r .longest z, r .queue, r .left z), r .room z)
 
 same-length : tie.Need-same-length
 same-length c = search needs

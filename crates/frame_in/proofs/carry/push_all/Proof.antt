@@ -1,55 +1,73 @@
--- `frame_in::carry::push_all` meets its contract. Assumes nothing.
+-- `frame_in::carry::push_all` meets its contract. What is left to do, done on the memory as it is, gives the result. Assumes nothing.
+use Prim.Native.Nat.{ℕ, _+_, _-_, _≤_, _<_}
+use mathlib.Core.Path.{_≡_, refl, sym, ap, _∙_}
+use mathlib.Core.Bool.{true}
+use mathlib.Core.List.{List}
 use native.Mathlib.Omega.{arith}
-use Rattle.frame_in.proofs.Carries.{pushed-five, ready-zero, ready-one, ready-two, ready-three, ready-four}
 use borrow.Author.Needs.{needs}
+use lib.ListN.{length}
+use Rattle.frame_rules.specs.Candidates.{portsIn}
+use Rattle.frame_in.specs.Carried.{eachPort, pushAt}
+use Rattle.frame_in.proofs.Each.{portsFrom, each-starts, each-turn, each-ends}
 use Rattle.frame_in.proofs.carry.push_all.Statement.{statement}
 use Rattle.frame_in.proofs.carry.push_all.Tie as tie
 
-push-if-requires : tie.Need-push-if-requires
-push-if-requires c κs = let s = c .before .before in (omega arith, ready-zero (s .args .n) (s .args .queue) (s .args .first) (s .args .tests) (s .args .links .now) (s .pre .0 .2) (s .pre .1))
+abbrev Inv-loop : tie.InvT-loop
+Inv-loop links₀ n left queue first port₀ links port =
+    (port ≤ 5) × (length links ≡ length links₀)
+    × (eachPort (pushAt n queue first) (portsFrom left port) links ≡ eachPort (pushAt n queue first) (portsIn left) links₀)
 
-add-push-if : tie.Need-add-push-if
-add-push-if c = search needs
+abbrev μ-loop : tie.MeasureT-loop
+μ-loop links₀ n left queue first port₀ links port = 5 - port
 
-push-if-requires-2 : tie.Need-push-if-requires-2
-push-if-requires-2 c κs = let s = c .before .before .before .before .before .before in (omega arith, ready-one (s .args .n) (s .args .queue) (s .args .first) (s .args .tests) (s .args .links .now) (s .pre .0 .2) (s .pre .1) (c .before .before .before .push-if .ensures))
+loop-holds : tie.Need-loop-holds Inv-loop μ-loop
+loop-holds c =
+    let s = c .before in (
+      omega arith,
+      refl,
+      each-starts (pushAt (s .args .n) (s .args .queue) (s .args .first)) (s .args .left) _,
+    )
 
-add-push-if-2 : tie.Need-add-push-if-2
-add-push-if-2 c = search needs
+push-if-requires : tie.Need-push-if-requires Inv-loop μ-loop
+push-if-requires c κs = omega arith
 
-push-if-requires-3 : tie.Need-push-if-requires-3
-push-if-requires-3 c κs = let s = c .before .before .before .before .before .before .before .before .before .before in (omega arith, ready-two (s .args .n) (s .args .queue) (s .args .first) (s .args .tests) (s .args .links .now) (s .pre .0 .2) (s .pre .1) (c .before .before .before .before .before .before .before .push-if .ensures) (c .before .before .before .push-if2 .ensures))
+add-port : tie.Need-add-port Inv-loop μ-loop
+add-port c = omega arith
 
-add-push-if-3 : tie.Need-add-push-if-3
-add-push-if-3 c = search needs
+loop-less : tie.Need-loop-less Inv-loop μ-loop
+loop-less c = omega arith
 
-push-if-requires-4 : tie.Need-push-if-requires-4
-push-if-requires-4 c κs = let s = c .before .before .before .before .before .before .before .before .before .before .before .before .before .before in (omega arith, ready-three (s .args .n) (s .args .queue) (s .args .first) (s .args .tests) (s .args .links .now) (s .pre .0 .2) (s .pre .1) (c .before .before .before .before .before .before .before .before .before .before .before .push-if .ensures) (c .before .before .before .before .before .before .before .push-if2 .ensures) (c .before .before .before .push-if3 .ensures))
+loop-again : tie.Need-loop-again Inv-loop μ-loop
+loop-again c =
+    let at = c .before .before .before .before .before in
+    let s = at .before .before in
+    let a = s .args in
+    let f = pushAt (a .n) (a .queue) (a .first) in (
+      omega arith,
+      search needs,
+      ap (λ (l : List ℕ). eachPort f (portsFrom (a .left) (at .loop .port + 1)) l) (c .before .before .push-if .ensures)
+          ∙ each-turn f (a .left) (at .loop .port) (at .loop .links) (omega arith)
+          ∙ at .loop .inv .2,
+    )
 
-add-push-if-4 : tie.Need-add-push-if-4
-add-push-if-4 c = search needs
-
-push-if-requires-5 : tie.Need-push-if-requires-5
-push-if-requires-5 c κs = let s = c .before .before .before .before .before .before .before .before .before .before .before .before .before .before .before .before .before .before in (omega arith, ready-four (s .args .n) (s .args .queue) (s .args .first) (s .args .tests) (s .args .links .now) (s .pre .0 .2) (s .pre .1) (c .before .before .before .before .before .before .before .before .before .before .before .before .before .before .before .push-if .ensures) (c .before .before .before .before .before .before .before .before .before .before .before .push-if2 .ensures) (c .before .before .before .before .before .before .before .push-if3 .ensures) (c .before .before .before .push-if4 .ensures))
-
-same-length : tie.Need-same-length
+same-length : tie.Need-same-length Inv-loop μ-loop
 same-length c = search needs
 
-returns : tie.Need-returns
-returns c = pushed-five _ _ _ _ _ (c .before .before .before .before .before .before .before .before .before .before .before .before .before .before .before .before .before .before .push-if .ensures) (c .before .before .before .before .before .before .before .before .before .before .before .before .before .before .push-if2 .ensures) (c .before .before .before .before .before .before .before .before .before .before .push-if3 .ensures) (c .before .before .before .before .before .before .push-if4 .ensures) (c .before .before .push-if5 .ensures)
+returns : tie.Need-returns Inv-loop μ-loop
+returns c =
+    let a = c .before .before .before .args in
+    sym (each-ends (pushAt (a .n) (a .queue) (a .first)) (a .left) (c .before .loop .port) (c .before .loop .links) (omega arith)) ∙ c .before .loop .inv .2
 
 pub push-all-spec : {M : Type 1} → statement M
 push-all-spec =
     tie.close
     (tie.spec
+    Inv-loop
+    μ-loop
+    loop-holds
     push-if-requires
-    add-push-if
-    push-if-requires-2
-    add-push-if-2
-    push-if-requires-3
-    add-push-if-3
-    push-if-requires-4
-    add-push-if-4
-    push-if-requires-5
+    add-port
+    loop-less
+    loop-again
     same-length
     returns)

@@ -1,18 +1,48 @@
 -- `frame_in::judge::in_entry` meets its contract. Assumes nothing.
-use mathlib.Core.Path.{sym, _∙_}
+use mathlib.Core.Path.{refl, sym, _∙_}
 use Rattle.frame_in.proofs.Barring.{entry-damaged, nine, as-member}
 use borrow.Author.Needs.{needs}
 use Rattle.frame_in.proofs.judge.in_entry.Statement.{statement}
 use Rattle.frame_in.proofs.judge.in_entry.Tie as tie
 
-vlan-in-range-requires : tie.Need-vlan-in-range-requires
-vlan-in-range-requires c κs = search needs
+mul-operation : tie.Need-mul-operation
+mul-operation c = search needs
+
+add-operation : tie.Need-add-operation
+add-operation c = search needs
+
+mul-operation-2 : tie.Need-mul-operation-2
+mul-operation-2 c = search needs
+
+shared-slice-read-operation : tie.Need-shared-slice-read-operation
+shared-slice-read-operation c = search needs
+
+is-operation-word-requires : tie.Need-is-operation-word-requires
+is-operation-word-requires c κs = search needs
+
+mul-unpack-vlan : tie.Need-mul-unpack-vlan
+mul-unpack-vlan c = search needs
+
+add-unpack-vlan : tie.Need-add-unpack-vlan
+add-unpack-vlan c = search needs
+
+mul-unpack-vlan-2 : tie.Need-mul-unpack-vlan-2
+mul-unpack-vlan-2 c = search needs
+
+shared-slice-read-unpack-vlan : tie.Need-shared-slice-read-unpack-vlan
+shared-slice-read-unpack-vlan c = search needs
+
+unpack-operation-requires : tie.Need-unpack-operation-requires
+unpack-operation-requires c κs = search needs
+
+unpack-vlan-requires : tie.Need-unpack-vlan-requires
+unpack-vlan-requires c κs = search needs
 
 bit-requires : tie.Need-bit-requires
 bit-requires c κs = search needs
 
 member-requires : tie.Need-member-requires
-member-requires c κs = as-member _ _ _ _ _ _ _ (c .before .before .before .before .before .before .before .pre) (sym (c .before .before .before .vlan-in-range .ensures) ∙ c .before .before .if1 .taken) (sym (c .before .bit .ensures) ∙ c .if2 .taken)
+member-requires c κs = as-member _ _ _ _ _ _ _ (c .before .before .before .before .before .before .before .before .before .before .before .pre) _ refl (sym (c .before .before .before .before .before .before .is-operation-word .ensures) ∙ c .before .before .before .before .before .if1 .taken) _ refl _ (c .before .before .before .unpack-operation .ensures) _ (c .before .before .unpack-vlan .ensures) (sym (c .before .bit .ensures) ∙ c .if2 .taken)
 
 returns : tie.Need-returns
 returns c = search needs
@@ -21,19 +51,29 @@ drop-plan-requires : tie.Need-drop-plan-requires
 drop-plan-requires c κs = search needs
 
 returns-2 : tie.Need-returns-2
-returns-2 c = rw (c .drop-plan .ensures) (nine _ _ _ _ _ _ _ (c .before .before .before .before .before .before .before .before .pre) (sym (c .before .before .before .before .vlan-in-range .ensures) ∙ c .before .before .before .if1 .taken) (sym (c .before .before .bit .ensures) ∙ c .before .if2 .left))
+returns-2 c = rw (c .drop-plan .ensures) (nine _ _ _ _ _ _ _ (c .before .before .before .before .before .before .before .before .before .before .before .before .pre) _ refl (sym (c .before .before .before .before .before .before .before .is-operation-word .ensures) ∙ c .before .before .before .before .before .before .if1 .taken) _ refl _ (c .before .before .before .before .unpack-operation .ensures) _ (c .before .before .before .unpack-vlan .ensures) (sym (c .before .before .bit .ensures) ∙ c .before .if2 .left))
 
 damaged-plan-requires : tie.Need-damaged-plan-requires
 damaged-plan-requires c κs = search needs
 
 returns-3 : tie.Need-returns-3
-returns-3 c = rw (c .damaged-plan .ensures) (entry-damaged _ _ _ _ _ _ _ (c .before .before .before .before .before .before .pre) (sym (c .before .before .vlan-in-range .ensures) ∙ c .before .if1 .left))
+returns-3 c = rw (c .damaged-plan .ensures) (entry-damaged _ _ _ _ _ _ _ (c .before .before .before .before .before .before .before .pre) _ refl (sym (c .before .before .is-operation-word .ensures) ∙ c .before .if1 .left))
 
 pub in-entry-spec : {M : Type 1} → statement M
 in-entry-spec =
     tie.close
     (tie.spec
-    vlan-in-range-requires
+    mul-operation
+    add-operation
+    mul-operation-2
+    shared-slice-read-operation
+    is-operation-word-requires
+    mul-unpack-vlan
+    add-unpack-vlan
+    mul-unpack-vlan-2
+    shared-slice-read-unpack-vlan
+    unpack-operation-requires
+    unpack-vlan-requires
     bit-requires
     member-requires
     returns

@@ -1,7 +1,6 @@
 -- `frame_in::judge::ordinary` meets its contract. Assumes nothing.
 use mathlib.Core.Path.{sym, _∙_}
-use native.Mathlib.Omega.{arith}
-use Rattle.frame_in.proofs.Barring.{barred-judged, table-damaged, absent-judged, entry-small, in-entry}
+use Rattle.frame_in.proofs.Barring.{barred-judged, table-damaged, absent-judged, in-entry}
 use borrow.Author.Needs.{needs}
 use Rattle.frame_in.proofs.judge.ordinary.Statement.{statement}
 use Rattle.frame_in.proofs.judge.ordinary.Tie as tie
@@ -33,11 +32,8 @@ drop-plan-requires-2 c κs = search needs
 enum-known-entry : tie.Need-enum-known-entry
 enum-known-entry c = search needs
 
-read-vlan-requires : tie.Need-read-vlan-requires
-read-vlan-requires c κs = let s = c .before .before .before .before .before .before .before .before .before in (entry-small _ _ _ _ _ _ (s .pre) (c .before .before .before .before .if1 .left) _ (sym (c .before .before .before .find-vlan .ensures) ∙ c .before .entry .given .1), omega (arith, s .pre .way .lent .long))
-
 in-entry-requires : tie.Need-in-entry-requires
-in-entry-requires c κs = in-entry _ _ _ _ _ _ (c .before .before .before .before .before .before .before .before .before .before .pre) (c .before .before .before .before .before .if1 .left) _ (sym (c .before .before .before .before .find-vlan .ensures) ∙ c .before .before .entry .given .1) _ (c .read-vlan .ensures)
+in-entry-requires c κs = in-entry _ _ _ _ _ _ (c .before .before .before .before .before .before .before .before .before .pre) (c .before .before .before .before .if1 .left) _ (sym (c .before .before .before .find-vlan .ensures) ∙ c .before .entry .given .1)
 
 returns-2 : tie.Need-returns-2
 returns-2 c = rw (c .damaged-plan .ensures) (table-damaged _ _ _ _ _ _ (c .before .before .before .before .before .before .before .before .before .pre) (c .before .before .before .before .if1 .left) (sym (c .before .before .before .find-vlan .ensures) ∙ c .before .enum-told .given .1))
@@ -61,7 +57,6 @@ ordinary-spec =
     absent-requires
     drop-plan-requires-2
     enum-known-entry
-    read-vlan-requires
     in-entry-requires
     returns-2
     returns-3

@@ -1,15 +1,16 @@
 -- `frame_rules::arrival::absent` meets its contract. Assumes nothing.
 use borrow.Author.Tests.{eq-eqb, ne-eqb}
+use Rattle.rules.specs.Reasons.{reasonNumber}
 use Rattle.frame_rules.specs.Arrivals.{absentReason}
 use Rattle.frame_rules.proofs.arrival.absent.Statement.{statement}
 use Rattle.frame_rules.proofs.arrival.absent.Tie as tie
 
 returns : tie.Need-returns
-unfolding absentReason
+unfolding absentReason reasonNumber
 returns c = rw (eq-eqb _ _ (c .if1 .taken))
 
 returns-2 : tie.Need-returns-2
-unfolding absentReason
+unfolding absentReason reasonNumber
 returns-2 c = rw (ne-eqb _ _ (c .if1 .left))
 
 pub absent-spec : {M : Type 1} → statement M

@@ -1,18 +1,19 @@
 -- `frame_rules::arrival::default_header` meets its contract. Assumes nothing.
 use native.Mathlib.Omega.{arith}
-use Rattle.settings.specs.RangeLaws.{port-range}
-use Rattle.rules.specs.Arguments.{portOf}
-use Rattle.settings.specs.Records.{portIs}
+use borrow.Author.Needs.{needs}
+use Rattle.packed.specs.Operations.{operationIn}
+use Rattle.frame_rules.proofs.Arrivals.{default-fits}
 use Rattle.frame_rules.proofs.arrival.default_header.Statement.{statement}
 use Rattle.frame_rules.proofs.arrival.default_header.Tie as tie
 
-header-requires : tie.Need-header-requires
-unfolding portIs
-header-requires c κs = let p = port-range (portIs (c .args .settings)) (c .pre) in record { pcp = omega (arith, p .pcp); dei = omega (arith, p .dei); vid = omega (arith, p .vid .most) }
+default-header-requires : tie.Need-default-header-requires
+default-header-requires c κs = search needs
+
+cast-result : tie.Need-cast-result
+cast-result c = omega (arith, default-fits (c .before .args .word) 0 0 0 (operationIn 0) _ (c .default-header .ensures _ (operationIn 0)) (c .before .pre))
 
 returns : tie.Need-returns
-unfolding portOf portIs
-returns c = c .header .ensures
+returns c = search needs
 
 pub default-header-spec : {M : Type 1} → statement M
-default-header-spec = tie.close (tie.spec header-requires returns)
+default-header-spec = tie.close (tie.spec default-header-requires cast-result returns)

@@ -6,15 +6,15 @@ use Rattle.frame_rules.proofs.plan.damaged_plan.Tie as tie
 no-lesson-requires : tie.Need-no-lesson-requires
 no-lesson-requires c κs = search needs
 
-no-tests-requires : tie.Need-no-tests-requires
-no-tests-requires c κs = search needs
+no-masks-requires : tie.Need-no-masks-requires
+no-masks-requires c κs = search needs
 
 no-header-requires : tie.Need-no-header-requires
 no-header-requires c κs = search needs
 
 returns : tie.Need-returns
-returns c = rw (c .no-header .ensures, c .before .no-tests .ensures, c .before .before .no-lesson .ensures)
+returns c = rw (c .no-header .ensures, c .before .no-masks .ensures, c .before .before .no-lesson .ensures)
 
 pub damaged-plan-spec : {M : Type 1} → statement M
 damaged-plan-spec =
-    tie.close (tie.spec no-lesson-requires no-tests-requires no-header-requires returns)
+    tie.close (tie.spec no-lesson-requires no-masks-requires no-header-requires returns)

@@ -25,6 +25,9 @@ mul-fill c = search needs
 add-fill : tie.Need-add-fill
 add-fill c = search needs
 
+sub-fill : tie.Need-sub-fill
+sub-fill c = search needs
+
 fill-requires : tie.Need-fill-requires
 fill-requires c κs = simp length-set (omega arith)
 
@@ -44,6 +47,7 @@ start-cell-spec =
     slice-write-links
     mul-fill
     add-fill
+    sub-fill
     fill-requires
     same-length
     returns)

@@ -12,7 +12,7 @@ use Rattle.fresh_call.proofs.cells.start_cells.Statement.{statement}
 use Rattle.fresh_call.proofs.cells.start_cells.Tie as tie
 
 abbrev Inv-loop : tie.InvT-loop
-Inv-loop links₀ n cell₀ links cell = (cell ≤ n) × (length links ≡ length links₀) × (sets links (nextWord cell) (freshCells (n - cell) n cell) ≡ sets links₀ 640 (freshCells n n 0))
+Inv-loop links₀ n cell₀ links cell = (cell ≤ n) × (length links ≡ length links₀) × (sets links (nextWord cell) (freshCells (n - cell) n cell) ≡ sets links₀ (nextWord 0) (freshCells n n 0))
 
 abbrev μ-loop : tie.MeasureT-loop
 μ-loop links₀ n cell₀ links cell = n - cell

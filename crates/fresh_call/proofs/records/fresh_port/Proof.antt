@@ -1,5 +1,4 @@
 -- `fresh_call::records::fresh_port` meets its contract. Assumes nothing.
-use Rattle.settings.specs.Records.{portIs}
 use Rattle.settings.specs.SettingsOf.{freshPort}
 use borrow.Author.Needs.{needs}
 use Rattle.fresh_call.proofs.records.fresh_port.Statement.{statement}
@@ -9,7 +8,7 @@ fresh-operation-requires : tie.Need-fresh-operation-requires
 fresh-operation-requires c κs = search needs
 
 returns : tie.Need-returns
-unfolding portIs freshPort
+unfolding freshPort
 returns c = rw (c .fresh-operation .ensures)
 
 pub fresh-port-spec : {M : Type 1} → statement M

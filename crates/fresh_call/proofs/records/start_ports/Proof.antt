@@ -4,14 +4,14 @@ use mathlib.Core.Path.{_≡_, refl, _∙_}
 use native.Mathlib.Omega.{arith}
 use lib.ListN.{length}
 use lib.Seq.{sets}
-use Rattle.layout.specs.Places.{portWord}
+use Rattle.layout.specs.Places.{portRecord}
 use Rattle.fresh_call.specs.Words.{freshPorts}
 use Rattle.fresh_call.proofs.Runs.{ports-turn, ports-end}
 use Rattle.fresh_call.proofs.records.start_ports.Statement.{statement}
 use Rattle.fresh_call.proofs.records.start_ports.Tie as tie
 
 abbrev Inv-loop : tie.InvT-loop
-Inv-loop links₀ port₀ links port = (port ≤ 5) × (length links ≡ length links₀) × (sets links (portWord port) (freshPorts (5 - port)) ≡ sets links₀ 64 (freshPorts 5))
+Inv-loop links₀ port₀ links port = (port ≤ 5) × (length links ≡ length links₀) × (sets links (portRecord port) (freshPorts (5 - port)) ≡ sets links₀ (portRecord 0) (freshPorts 5))
 
 abbrev μ-loop : tie.MeasureT-loop
 μ-loop links₀ port₀ links port = 5 - port

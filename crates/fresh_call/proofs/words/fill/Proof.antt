@@ -5,7 +5,7 @@ use native.Mathlib.Nat.{add-zero}
 use native.Mathlib.Omega.{arith}
 use lib.ListN.{length, drop, replicate, length-set, length-replicate, drop-of-length-le}
 use lib.Seq.{sets}
-use Rattle.slices.specs.Runs.{fill-turn}
+use Rattle.slices.proofs.Runs.{fill-turn}
 use Rattle.fresh_call.specs.Words.{copies}
 use Rattle.fresh_call.proofs.words.fill.Statement.{statement}
 use Rattle.fresh_call.proofs.words.fill.Tie as tie

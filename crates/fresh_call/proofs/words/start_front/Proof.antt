@@ -1,9 +1,9 @@
 -- `fresh_call::words::start_front` meets its contract: the stores are a run. Assumes nothing.
 use mathlib.Core.Path.{refl}
 use native.Mathlib.Omega.{arith}
+use borrow.Author.Needs.{needs}
 use lib.ListN.{length-set}
 use Rattle.fresh_call.specs.Words.{freshFront}
-use borrow.Author.Needs.{needs}
 use Rattle.fresh_call.proofs.words.start_front.Statement.{statement}
 use Rattle.fresh_call.proofs.words.start_front.Tie as tie
 
@@ -25,18 +25,6 @@ slice-write-links-5 c = simp length-set (omega arith)
 slice-write-links-6 : tie.Need-slice-write-links-6
 slice-write-links-6 c = simp length-set (omega arith)
 
-slice-write-links-7 : tie.Need-slice-write-links-7
-slice-write-links-7 c = simp length-set (omega arith)
-
-slice-write-links-8 : tie.Need-slice-write-links-8
-slice-write-links-8 c = simp length-set (omega arith)
-
-slice-write-links-9 : tie.Need-slice-write-links-9
-slice-write-links-9 c = simp length-set (omega arith)
-
-slice-write-links-10 : tie.Need-slice-write-links-10
-slice-write-links-10 c = simp length-set (omega arith)
-
 same-length : tie.Need-same-length
 same-length c = search needs
 
@@ -54,9 +42,5 @@ start-front-spec =
     slice-write-links-4
     slice-write-links-5
     slice-write-links-6
-    slice-write-links-7
-    slice-write-links-8
-    slice-write-links-9
-    slice-write-links-10
     same-length
     returns)

@@ -1,7 +1,7 @@
 -- `leaving_tags::leaving::joined` meets its contract: the number's digits are the tag's parts. Assumes nothing.
 use native.Mathlib.Omega.{arith}
 use borrow.Author.Needs.{needs}
-use Rattle.leaving_tags.specs.Leaving.{joined-is}
+use Rattle.leaving_tags.proofs.Operated.{joined-is}
 use Rattle.leaving_tags.proofs.leaving.joined.Statement.{statement}
 use Rattle.leaving_tags.proofs.leaving.joined.Tie as tie
 

@@ -6,8 +6,8 @@ use lib.ListN.{length}
 use Rattle.rules.specs.Operations.{leavingTags}
 use Rattle.tags.specs.Numbers.{originIs, stackIs}
 use Rattle.leaving_tags.specs.Operations.{operationIs}
-use Rattle.tags.specs.Stacks.{stack-length}
-use Rattle.leaving_tags.specs.Leaving.{operate-length}
+use Rattle.tags.proofs.Stacks.{stack-length}
+use Rattle.leaving_tags.proofs.Operated.{operate-length}
 use Rattle.leaving_tags.proofs.leaving.leaving_tags.Statement.{statement}
 use Rattle.leaving_tags.proofs.leaving.leaving_tags.Tie as tie
 

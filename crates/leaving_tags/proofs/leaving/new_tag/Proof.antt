@@ -1,7 +1,7 @@
 -- `leaving_tags::leaving::new_tag` meets its contract: its parts are those that the calls ensure. Assumes nothing.
 use mathlib.Core.Path.{_∙_}
 use borrow.Author.Needs.{needs}
-use Rattle.leaving_tags.specs.Leaving.{new-is}
+use Rattle.leaving_tags.proofs.Operated.{new-is}
 use Rattle.leaving_tags.proofs.leaving.new_tag.Statement.{statement}
 use Rattle.leaving_tags.proofs.leaving.new_tag.Tie as tie
 

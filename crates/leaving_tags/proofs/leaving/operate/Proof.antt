@@ -3,7 +3,7 @@ use mathlib.Core.Path.{_∙_}
 use native.Mathlib.Omega.{arith}
 use borrow.Author.Needs.{needs}
 use Rattle.tags.specs.Numbers.{firstTags, stackIs}
-use Rattle.leaving_tags.specs.Leaving.{operated-none, operated-pop, operated-push, operated-swap, operated-pop-all}
+use Rattle.leaving_tags.proofs.Operated.{operated-none, operated-pop, operated-push, operated-swap, operated-pop-all}
 use Rattle.leaving_tags.proofs.leaving.operate.Statement.{statement}
 use Rattle.leaving_tags.proofs.leaving.operate.Tie as tie
 

@@ -3,7 +3,7 @@ use mathlib.Core.Path.{_∙_}
 use native.Mathlib.Omega.{arith}
 use borrow.Author.Needs.{needs}
 use Rattle.tags.specs.Numbers.{originIs}
-use Rattle.leaving_tags.specs.Leaving.{from-operation, from-tag}
+use Rattle.leaving_tags.proofs.Operated.{from-operation, from-tag}
 use Rattle.leaving_tags.proofs.leaving.source_header.Statement.{statement}
 use Rattle.leaving_tags.proofs.leaving.source_header.Tie as tie
 

@@ -1,6 +1,6 @@
 -- `leaving_tags::leaving::type_of` meets its contract, a type for each of the two numbers. Assumes nothing.
 use native.Mathlib.Omega.{arith}
-use Rattle.leaving_tags.specs.Leaving.{type-zero, type-one}
+use Rattle.leaving_tags.proofs.Operated.{type-zero, type-one}
 use Rattle.leaving_tags.proofs.leaving.type_of.Statement.{statement}
 use Rattle.leaving_tags.proofs.leaving.type_of.Tie as tie
 

@@ -2,7 +2,7 @@
 use mathlib.Core.Path.{_∙_}
 use native.Mathlib.Omega.{arith}
 use borrow.Author.Needs.{needs}
-use Rattle.leaving_tags.specs.Writing.{encoded-none, encoded-one, encoded-two, encoded-three, encoded-four}
+use Rattle.leaving_tags.proofs.TagRuns.{encoded-none, encoded-one, encoded-two, encoded-three, encoded-four}
 use Rattle.leaving_tags.proofs.writing.encode.Statement.{statement}
 use Rattle.leaving_tags.proofs.writing.encode.Tie as tie
 

@@ -2,7 +2,7 @@
 use native.Mathlib.Omega.{arith}
 use borrow.Author.Needs.{needs}
 use lib.ListN.{length-set}
-use Rattle.leaving_tags.specs.Writing.{tag-run}
+use Rattle.leaving_tags.proofs.TagRuns.{tag-run}
 use Rattle.leaving_tags.proofs.writing.write_tag.Statement.{statement}
 use Rattle.leaving_tags.proofs.writing.write_tag.Tie as tie
 

@@ -5,7 +5,7 @@ use mathlib.Core.Path.{_≡_, refl, _∙_}
 use native.Mathlib.Omega.{arith}
 use lib.ListN.{length, getD, drop, length-set, drop-of-length-le}
 use lib.Seq.{sets}
-use Rattle.records.specs.MoveLaws.{moved, moved-length, move-turn, move-keeps}
+use Rattle.records.proofs.MoveLaws.{moved, moved-length, move-turn, move-keeps}
 use Rattle.records.proofs.framing.move_to_front.Statement.{statement}
 use Rattle.records.proofs.framing.move_to_front.Tie as tie
 

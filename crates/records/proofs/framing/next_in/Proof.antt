@@ -1,7 +1,7 @@
 -- `records::framing::next_in` meets its contract: each return is one case of what comes next. Assumes nothing.
 use native.Mathlib.Omega.{arith}
 use borrow.Author.Needs.{needs}
-use Rattle.records.specs.FramingLaws.{next-none, next-one-byte, next-length-under-two, next-cut, next-whole}
+use Rattle.records.proofs.FramingLaws.{next-none, next-one-byte, next-length-under-two, next-cut, next-whole}
 use Rattle.records.proofs.framing.next_in.Statement.{statement}
 use Rattle.records.proofs.framing.next_in.Tie as tie
 

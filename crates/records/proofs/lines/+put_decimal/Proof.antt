@@ -7,7 +7,7 @@ use lib.ListN.{length, length-set}
 use borrow.Fn.Kinds.{In}
 use borrow.Fn.PlainCycle.{Measures, is, falls, and}
 use Rattle.records.specs.Lines.{decimal, written}
-use Rattle.records.specs.LineLaws.{decimal-one, decimal-more, decimal-one-length, decimal-more-length, written-place, written-byte}
+use Rattle.records.proofs.LineLaws.{decimal-one, decimal-more, decimal-one-length, decimal-more-length, written-place, written-byte}
 use Rattle.records.proofs.lines.put_decimal.Reads as put-decimal
 use Rattle.records.proofs.lines.put_decimal.Kinds as put-decimal-kinds
 use Rattle.records.proofs.lines.+put_decimal.Lts-put_decimal as put-decimal-lts

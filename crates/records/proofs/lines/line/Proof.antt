@@ -2,7 +2,7 @@
 use native.Mathlib.Omega.{arith}
 use borrow.Author.Needs.{needs}
 use Rattle.records.specs.Lines.{lineOf}
-use Rattle.records.specs.LineLaws.{field-of-32, field-of-64, written-place, written-thrice}
+use Rattle.records.proofs.LineLaws.{field-of-32, field-of-64, written-place, written-thrice}
 use Rattle.records.proofs.lines.line.Statement.{statement}
 use Rattle.records.proofs.lines.line.Tie as tie
 

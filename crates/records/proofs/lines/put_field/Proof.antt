@@ -2,7 +2,7 @@
 use native.Mathlib.Omega.{arith}
 use borrow.Author.Needs.{needs}
 use Rattle.records.specs.Lines.{field}
-use Rattle.records.specs.LineLaws.{field-length, written-place, written-byte}
+use Rattle.records.proofs.LineLaws.{field-length, written-place, written-byte}
 use Rattle.records.proofs.lines.put_field.Statement.{statement}
 use Rattle.records.proofs.lines.put_field.Tie as tie
 

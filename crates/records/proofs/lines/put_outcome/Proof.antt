@@ -1,7 +1,7 @@
 -- `records::lines::put_outcome` meets its contract: text behind text, for each outcome. Assumes nothing.
 use native.Mathlib.Omega.{arith}
 use borrow.Author.Needs.{needs}
-use Rattle.records.specs.LineLaws.{field-of-32, written-place, written-twice, written-thrice, outcome-ok, outcome-refused}
+use Rattle.records.proofs.LineLaws.{field-of-32, written-place, written-twice, written-thrice, outcome-ok, outcome-refused}
 use Rattle.records.proofs.lines.put_outcome.Statement.{statement}
 use Rattle.records.proofs.lines.put_outcome.Tie as tie
 

@@ -2,7 +2,7 @@
 use mathlib.Core.Path.{refl}
 use native.Mathlib.Omega.{arith}
 use Rattle.records.specs.Requests.{kinds, kindIn, bodyFits, asked}
-use Rattle.records.specs.RequestLaws.{unknown-asks, size-is, size-at-least}
+use Rattle.records.proofs.RequestLaws.{unknown-asks, size-is, size-at-least}
 use Rattle.records.proofs.requests.ask.Statement.{statement}
 use Rattle.records.proofs.requests.ask.Tie as tie
 
@@ -46,17 +46,17 @@ byte-at-requires-7 : tie.Need-byte-at-requires-7
 unfolding bodyFits kindIn kinds
 byte-at-requires-7 c κs = omega (arith, size-is _ 8 _ 8 (c .before .before .before .pre) (c .before .match .keys8) refl)
 
-address-at-requires : tie.Need-address-at-requires
+address-in-six-requires : tie.Need-address-in-six-requires
 unfolding bodyFits kindIn kinds
-address-at-requires c κs = omega (arith, size-is _ 8 _ 8 (c .before .before .before .before .pre) (c .before .before .match .keys8) refl)
+address-in-six-requires c κs = omega (arith, size-is _ 8 _ 8 (c .before .before .before .before .pre) (c .before .before .match .keys8) refl)
 
 byte-at-requires-8 : tie.Need-byte-at-requires-8
 unfolding bodyFits kindIn kinds
 byte-at-requires-8 c κs = omega (arith, size-is _ 9 _ 7 (c .before .before .pre) (c .match .keys9) refl)
 
-address-at-requires-2 : tie.Need-address-at-requires-2
+address-in-six-requires-2 : tie.Need-address-in-six-requires-2
 unfolding bodyFits kindIn kinds
-address-at-requires-2 c κs = omega (arith, size-is _ 9 _ 7 (c .before .before .before .pre) (c .before .match .keys9) refl)
+address-in-six-requires-2 c κs = omega (arith, size-is _ 9 _ 7 (c .before .before .before .pre) (c .before .match .keys9) refl)
 
 byte-at-requires-9 : tie.Need-byte-at-requires-9
 unfolding bodyFits kindIn kinds
@@ -116,11 +116,11 @@ returns-7 c = rw (c .before .match .keys7, c .little-endian .ensures .0)
 
 returns-8 : tie.Need-returns-8
 unfolding asked kindIn kinds
-returns-8 c = rw (c .before .before .before .match .keys8, c .address-at .ensures, c .before .byte-at7 .ensures, c .before .before .byte-at6 .ensures)
+returns-8 c = rw (c .before .before .before .match .keys8, c .address-in-six .ensures, c .before .byte-at7 .ensures, c .before .before .byte-at6 .ensures)
 
 returns-9 : tie.Need-returns-9
 unfolding asked kindIn kinds
-returns-9 c = rw (c .before .before .match .keys9, c .address-at2 .ensures, c .before .byte-at8 .ensures)
+returns-9 c = rw (c .before .before .match .keys9, c .address-in-six2 .ensures, c .before .byte-at8 .ensures)
 
 returns-10 : tie.Need-returns-10
 unfolding asked kindIn kinds
@@ -156,9 +156,9 @@ ask-spec =
     little-endian-requires
     byte-at-requires-6
     byte-at-requires-7
-    address-at-requires
+    address-in-six-requires
     byte-at-requires-8
-    address-at-requires-2
+    address-in-six-requires-2
     byte-at-requires-9
     byte-at-requires-10
     byte-at-requires-11

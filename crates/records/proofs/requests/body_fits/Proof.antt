@@ -1,6 +1,6 @@
 -- `records::requests::body_fits` meets its contract: each arm is one kind of the table. Assumes nothing.
 use Rattle.records.specs.Requests.{kinds, kindIn, bodyFits}
-use Rattle.records.specs.RequestLaws.{unknown-fits}
+use Rattle.records.proofs.RequestLaws.{unknown-fits}
 use Rattle.records.proofs.requests.body_fits.Statement.{statement}
 use Rattle.records.proofs.requests.body_fits.Tie as tie
 

@@ -2,7 +2,7 @@
 use mathlib.Core.Path.{_∙_}
 use native.Mathlib.Omega.{arith}
 use borrow.Author.Needs.{needs}
-use Rattle.records.specs.RequestLaws.{rest-is, nothing-behind}
+use Rattle.records.proofs.RequestLaws.{rest-is, nothing-behind}
 use Rattle.records.proofs.requests.frame_of.Statement.{statement}
 use Rattle.records.proofs.requests.frame_of.Tie as tie
 

@@ -2,7 +2,7 @@
 use mathlib.Core.Path.{sym, _∙_}
 use native.Mathlib.Omega.{arith}
 use borrow.Author.Needs.{needs}
-use Rattle.records.specs.RequestLaws.{rest-is, over-long, wrong-size, right-size}
+use Rattle.records.proofs.RequestLaws.{rest-is, over-long, wrong-size, right-size}
 use Rattle.records.proofs.requests.request_of.Statement.{statement}
 use Rattle.records.proofs.requests.request_of.Tie as tie
 

@@ -3,7 +3,7 @@ use mathlib.Core.Path.{sym, _∙_}
 use borrow.Author.Tests.{le-leb, lt-leb}
 use Rattle.rules.specs.Refusals.{refusalNumber, bpduLines}
 use Rattle.setting_calls.specs.Calls.{bpduRefusals, bpduCall}
-use Rattle.lent.proofs.Ends.{fixed-part, too-short, long-enough, out-of-range, in-range, finished}
+use Rattle.lent.proofs.Ends.{fixed-part, too-short, long-enough, out-of-range, in-range}
 use borrow.Author.Needs.{needs}
 use Rattle.setting_calls.proofs.bpdu.bpdu.Statement.{statement}
 use Rattle.setting_calls.proofs.bpdu.bpdu.Tie as tie
@@ -23,13 +23,10 @@ returns c =
     let f = c .before .before in
     long-enough _ _ _ _ (sym (f .before .links-fit .ensures) ∙ f .if1 .taken) (out-of-range _ _ _ _ (lt-leb _ _ (c .before .if2 .taken)) (c .refused .ensures))
 
-set-bpdu-handling-requires : tie.Need-set-bpdu-handling-requires
-set-bpdu-handling-requires c κs =
+switch-bpdu-requires : tie.Need-switch-bpdu-requires
+switch-bpdu-requires c κs =
     let f = c .before .before in
     fixed-part _ (sym (f .before .links-fit .ensures) ∙ f .if1 .taken)
-
-done-requires : tie.Need-done-requires
-done-requires c κs = search needs
 
 same-length-2 : tie.Need-same-length-2
 same-length-2 c = search needs
@@ -37,11 +34,11 @@ same-length-2 c = search needs
 returns-2 : tie.Need-returns-2
 unfolding bpduCall bpduRefusals bpduLines
 returns-2 c =
-    let w = c .before .before .before in
+    let w = c .before .before in
     let o = w .before .before in
     let f = o .before in
     long-enough _ _ _ _ (sym (f .before .links-fit .ensures) ∙ f .if1 .taken)
-    (in-range _ _ _ _ (le-leb _ _ (o .if2 .left)) (finished _ _ (rw (c .done .ensures, w .set-bpdu-handling .ensures))))
+    (in-range _ _ _ _ (le-leb _ _ (o .if2 .left)) (w .switch-bpdu .ensures))
 
 refused-requires-2 : tie.Need-refused-requires-2
 refused-requires-2 c κs = search needs
@@ -61,8 +58,7 @@ bpdu-spec =
     refused-requires
     same-length
     returns
-    set-bpdu-handling-requires
-    done-requires
+    switch-bpdu-requires
     same-length-2
     returns-2
     refused-requires-2

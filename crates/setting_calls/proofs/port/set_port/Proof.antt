@@ -1,5 +1,4 @@
 -- `setting_calls::port::set_port` meets its contract: it puts its numbers together. Assumes nothing.
-use Rattle.settings.specs.Records.{operationIs, portIs}
 use borrow.Author.Needs.{needs}
 use Rattle.setting_calls.proofs.port.set_port.Statement.{statement}
 use Rattle.setting_calls.proofs.port.set_port.Tie as tie
@@ -11,7 +10,6 @@ same-length : tie.Need-same-length
 same-length c = search needs
 
 returns : tie.Need-returns
-unfolding operationIs portIs
 returns c = c .before .before .store-port .ensures
 
 pub set-port-spec : {M : Type 1} → statement M

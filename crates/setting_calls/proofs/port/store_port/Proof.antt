@@ -3,7 +3,8 @@ use mathlib.Core.Path.{sym, _∙_}
 use native.Mathlib.Omega.{arith}
 use Rattle.rules.specs.Refusals.{refusalNumber, portLines}
 use Rattle.setting_calls.specs.Calls.{portRefusals, portCall}
-use Rattle.lent.proofs.Ends.{fixed-part, too-short, long-enough, port-above, port-good, out-of-range, in-range, finished}
+use Rattle.packed.proofs.RangeLaws.{port-range}
+use Rattle.lent.proofs.Ends.{fixed-part, too-short, long-enough, port-above, port-good, out-of-range, in-range}
 use borrow.Author.Needs.{needs}
 use Rattle.setting_calls.proofs.port.store_port.Statement.{statement}
 use Rattle.setting_calls.proofs.port.store_port.Tie as tie
@@ -26,13 +27,13 @@ returns c =
 port-in-range-requires : tie.Need-port-in-range-requires
 port-in-range-requires c κs = search needs
 
-write-port-requires : tie.Need-write-port-requires
-write-port-requires c κs =
-    let f = c .before .before .before .before in
-    omega (arith, fixed-part _ (sym (f .before .links-fit .ensures) ∙ f .if1 .taken))
-
-done-requires : tie.Need-done-requires
-done-requires c κs = search needs
+place-port-requires : tie.Need-place-port-requires
+place-port-requires c κs =
+    let f = c .before .before .before .before in (
+      fixed-part _ (sym (f .before .links-fit .ensures) ∙ f .if1 .taken),
+      omega arith,
+      port-range _ (sym (c .before .before .port-in-range .ensures) ∙ c .before .if3 .taken),
+    )
 
 same-length-2 : tie.Need-same-length-2
 same-length-2 c = search needs
@@ -40,13 +41,13 @@ same-length-2 c = search needs
 returns-2 : tie.Need-returns-2
 unfolding portCall portRefusals portLines
 returns-2 c =
-    let w = c .before .before .before in
+    let w = c .before .before in
     let r = w .before .before in
     let p = r .before .before in
     let f = p .before in
     long-enough _ _ _ _ (sym (f .before .links-fit .ensures) ∙ f .if1 .taken)
     (port-good _ _ _ _ (p .if2 .left)
-    (in-range _ _ _ _ (sym (r .before .port-in-range .ensures) ∙ r .if3 .taken) (finished _ _ (rw (c .done .ensures, w .write-port .ensures)))))
+    (in-range _ _ _ _ (sym (r .before .port-in-range .ensures) ∙ r .if3 .taken) (w .place-port .ensures)))
 
 refused-requires-2 : tie.Need-refused-requires-2
 refused-requires-2 c κs = search needs
@@ -82,8 +83,7 @@ store-port-spec =
     same-length
     returns
     port-in-range-requires
-    write-port-requires
-    done-requires
+    place-port-requires
     same-length-2
     returns-2
     refused-requires-2

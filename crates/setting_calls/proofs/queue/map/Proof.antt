@@ -4,7 +4,7 @@ use native.Mathlib.Omega.{arith}
 use borrow.Author.Tests.{le-leb, lt-leb}
 use Rattle.rules.specs.Refusals.{refusalNumber, mapLines}
 use Rattle.setting_calls.specs.Calls.{mapRefusals, mapCall}
-use Rattle.lent.proofs.Ends.{fixed-part, first-fails, second-fails, both-hold, too-short, long-enough, out-of-range, in-range, finished}
+use Rattle.lent.proofs.Ends.{fixed-part, first-fails, second-fails, both-hold, too-short, long-enough, out-of-range, in-range}
 use borrow.Author.Needs.{needs}
 use Rattle.setting_calls.proofs.queue.map.Statement.{statement}
 use Rattle.setting_calls.proofs.queue.map.Tie as tie
@@ -38,13 +38,10 @@ returns-2 c =
     long-enough _ _ _ _ (sym (f .before .links-fit .ensures) ∙ f .if1 .taken)
     (out-of-range _ _ _ _ (second-fails _ _ (le-leb _ _ (c .before .before .if2 .left)) (lt-leb _ _ (c .before .if3 .taken))) (c .refused2 .ensures))
 
-set-queue-requires : tie.Need-set-queue-requires
-set-queue-requires c κs =
+place-queue-requires : tie.Need-place-queue-requires
+place-queue-requires c κs =
     let f = c .before .before .before in
     omega (arith, fixed-part _ (sym (f .before .links-fit .ensures) ∙ f .if1 .taken))
-
-done-requires : tie.Need-done-requires
-done-requires c κs = search needs
 
 same-length-3 : tie.Need-same-length-3
 same-length-3 c = search needs
@@ -52,12 +49,12 @@ same-length-3 c = search needs
 returns-3 : tie.Need-returns-3
 unfolding mapCall mapRefusals mapLines
 returns-3 c =
-    let w = c .before .before .before in
+    let w = c .before .before in
     let q = w .before .before in
     let f = q .before .before in
     long-enough _ _ _ _ (sym (f .before .links-fit .ensures) ∙ f .if1 .taken)
     (in-range _ _ _ _ (both-hold _ _ (le-leb _ _ (q .before .if2 .left)) (le-leb _ _ (q .if3 .left)))
-    (finished _ _ (rw (c .done .ensures, w .set-queue .ensures))))
+    (w .place-queue .ensures))
 
 refused-requires-3 : tie.Need-refused-requires-3
 refused-requires-3 c κs = search needs
@@ -80,8 +77,7 @@ map-spec =
     refused-requires-2
     same-length-2
     returns-2
-    set-queue-requires
-    done-requires
+    place-queue-requires
     same-length-3
     returns-3
     refused-requires-3

@@ -4,7 +4,7 @@ use native.Mathlib.Omega.{arith}
 use borrow.Author.Tests.{le-leb, lt-leb}
 use Rattle.rules.specs.Refusals.{refusalNumber, queueSwitchLines}
 use Rattle.setting_calls.specs.Calls.{queueSwitchRefusals, queueSwitchCall}
-use Rattle.lent.proofs.Ends.{fixed-part, first-fails, second-fails, both-hold, too-short, long-enough, port-above, port-good, out-of-range, in-range, finished}
+use Rattle.lent.proofs.Ends.{fixed-part, first-fails, second-fails, both-hold, too-short, long-enough, port-above, port-good, out-of-range, in-range}
 use borrow.Author.Needs.{needs}
 use Rattle.setting_calls.proofs.queue.queue_switch.Statement.{statement}
 use Rattle.setting_calls.proofs.queue.queue_switch.Tie as tie
@@ -52,13 +52,10 @@ returns-3 c =
     long-enough _ _ _ _ (sym (f .before .links-fit .ensures) ∙ f .if1 .taken)
     (port-good _ _ _ _ (p .if2 .left) (out-of-range _ _ _ _ (second-fails _ _ (le-leb _ _ (c .before .before .if3 .left)) (lt-leb _ _ (c .before .if4 .taken))) (c .refused3 .ensures)))
 
-set-queue-switch-requires : tie.Need-set-queue-switch-requires
-set-queue-switch-requires c κs =
+switch-queue-requires : tie.Need-switch-queue-requires
+switch-queue-requires c κs =
     let f = c .before .before .before .before in
     omega (arith, fixed-part _ (sym (f .before .links-fit .ensures) ∙ f .if1 .taken))
-
-done-requires : tie.Need-done-requires
-done-requires c κs = search needs
 
 same-length-4 : tie.Need-same-length-4
 same-length-4 c = search needs
@@ -66,14 +63,14 @@ same-length-4 c = search needs
 returns-4 : tie.Need-returns-4
 unfolding queueSwitchCall queueSwitchRefusals queueSwitchLines
 returns-4 c =
-    let w = c .before .before .before in
+    let w = c .before .before in
     let o = w .before .before in
     let p = o .before .before in
     let f = p .before in
     long-enough _ _ _ _ (sym (f .before .links-fit .ensures) ∙ f .if1 .taken)
     (port-good _ _ _ _ (p .if2 .left)
     (in-range _ _ _ _ (both-hold _ _ (le-leb _ _ (o .before .if3 .left)) (le-leb _ _ (o .if4 .left)))
-    (finished _ _ (rw (c .done .ensures, w .set-queue-switch .ensures)))))
+    (w .switch-queue .ensures)))
 
 refused-requires-4 : tie.Need-refused-requires-4
 refused-requires-4 c κs = search needs
@@ -99,8 +96,7 @@ queue-switch-spec =
     refused-requires-3
     same-length-3
     returns-3
-    set-queue-switch-requires
-    done-requires
+    switch-queue-requires
     same-length-4
     returns-4
     refused-requires-4

@@ -1,9 +1,8 @@
 -- `settings::table::clear_vlan` meets its contract: the words that move, the zeros, and the count. Assumes nothing.
-use mathlib.Core.Path.{_∙_}
 use native.Mathlib.Omega.{arith}
 use borrow.Author.Needs.{needs}
 use lib.ListN.{length-set}
-use Rattle.settings.specs.TableSteps.{cleared-is}
+use Rattle.settings.proofs.TableSteps.{cleared-is}
 use Rattle.settings.proofs.table.clear_vlan.Statement.{statement}
 use Rattle.settings.proofs.table.clear_vlan.Tie as tie
 
@@ -31,17 +30,32 @@ add-move-down c = search needs
 move-down-requires : tie.Need-move-down-requires
 move-down-requires c κs = search needs
 
-clear-record-requires : tie.Need-clear-record-requires
-clear-record-requires c κs = search needs
+mul-links : tie.Need-mul-links
+mul-links c = search needs
 
 slice-write-links : tie.Need-slice-write-links
-slice-write-links c = search needs
+slice-write-links c = omega (arith, c .before .before .move-down .kept .0)
+
+add-links : tie.Need-add-links
+add-links c = search needs
+
+mul-links-2 : tie.Need-mul-links-2
+mul-links-2 c = search needs
+
+slice-write-links-2 : tie.Need-slice-write-links-2
+slice-write-links-2 c = simp length-set (omega (arith, c .before .before .move-down .kept .0))
+
+slice-write-links-3 : tie.Need-slice-write-links-3
+slice-write-links-3 c = simp length-set (omega (arith, c .before .before .move-down .kept .0))
 
 same-length : tie.Need-same-length
-same-length c = simp length-set (c .before .before .clear-record .kept .0 ∙ c .before .before .before .before .before .before .move-down .kept .0)
+same-length c = simp length-set (c .before .before .move-down .kept .0)
 
 returns : tie.Need-returns
-returns c = rw (c .before .before .clear-record .ensures, c .before .before .before .before .before .before .move-down .ensures) (cleared-is _ _ (omega (arith, c .before .before .before .before .before .before .before .before .before .before .pre)) (omega (arith, c .before .before .before .before .before .before .before .before .before .before .pre)) (omega (arith, c .before .before .before .before .before .before .before .before .before .before .pre)))
+returns c =
+    let s = c .before .before .before .before .before .before in
+    rw (c .before .before .move-down .ensures)
+    (cleared-is (s .args .links .now) (s .args .entry) (omega (arith, s .pre)) (omega (arith, s .pre)) (omega (arith, s .pre)))
 
 pub clear-vlan-spec : {M : Type 1} → statement M
 clear-vlan-spec =
@@ -55,7 +69,11 @@ clear-vlan-spec =
     mul-move-down
     add-move-down
     move-down-requires
-    clear-record-requires
+    mul-links
     slice-write-links
+    add-links
+    mul-links-2
+    slice-write-links-2
+    slice-write-links-3
     same-length
     returns)

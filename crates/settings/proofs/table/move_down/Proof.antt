@@ -3,7 +3,7 @@ use Prim.Native.Nat.{_-_, _≤_}
 use mathlib.Core.Path.{_≡_, refl, _∙_}
 use native.Mathlib.Omega.{arith}
 use lib.ListN.{length, length-set}
-use Rattle.settings.specs.TableSteps.{moved, moved-turn, moved-end, moved-run}
+use Rattle.settings.proofs.TableSteps.{moved, moved-turn, moved-end, moved-run}
 use Rattle.settings.proofs.table.move_down.Statement.{statement}
 use Rattle.settings.proofs.table.move_down.Tie as tie
 

@@ -1,7 +1,7 @@
 -- `tags::headers::assigned_vid` meets its contract: each return is one outcome of the assignment. Assumes nothing.
 use mathlib.Core.Path.{sym, ap, _∙_}
 use borrow.Author.Needs.{needs}
-use Rattle.tags.specs.Stacks.{vid-default, vid-missing, vid-there}
+use Rattle.tags.proofs.Stacks.{vid-default, vid-missing, vid-there}
 use Rattle.rules.specs.Tags.{Header}
 use Rattle.tags.proofs.headers.assigned_vid.Statement.{statement}
 use Rattle.tags.proofs.headers.assigned_vid.Tie as tie

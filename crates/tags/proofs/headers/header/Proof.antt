@@ -1,6 +1,6 @@
 -- `tags::headers::header` meets its contract: the parts are the header's digits. Assumes nothing.
 use borrow.Author.Needs.{needs}
-use Rattle.tags.specs.Reading.{header-of-parts}
+use Rattle.tags.proofs.Numbers.{header-of-parts}
 use Rattle.tags.proofs.headers.header.Statement.{statement}
 use Rattle.tags.proofs.headers.header.Tie as tie
 

@@ -2,7 +2,7 @@
 use mathlib.Core.Path.{_≡_, sym}
 use native.Mathlib.Omega.{arith}
 use borrow.Author.Needs.{needs}
-use Rattle.tags.specs.Stacks.{header-missing, header-outermost, header-second}
+use Rattle.tags.proofs.Stacks.{header-missing, header-outermost, header-second}
 use Rattle.tags.proofs.headers.header_at.Statement.{statement}
 use Rattle.tags.proofs.headers.header_at.Tie as tie
 

@@ -1,42 +1,18 @@
--- `tags::reading::address_at` meets its contract: six bytes are two and four. Assumes nothing.
+-- `tags::reading::address_at` meets its contract: eight bytes turned round, without the last two. Assumes nothing.
+use native.Mathlib.Omega.{arith}
+use Rattle.tags.proofs.Swaps.{address-of-eight}
 use borrow.Author.Needs.{needs}
-use Rattle.tags.specs.Reading.{address-of-six}
 use Rattle.tags.proofs.reading.address_at.Statement.{statement}
 use Rattle.tags.proofs.reading.address_at.Tie as tie
 
-two-bytes-requires : tie.Need-two-bytes-requires
-two-bytes-requires c κs = search needs
+eight-low-requires : tie.Need-eight-low-requires
+eight-low-requires c κs = search needs
 
-cast-result : tie.Need-cast-result
-cast-result c = search needs
-
-mul-result : tie.Need-mul-result
-mul-result c = search needs
-
-add-four-bytes : tie.Need-add-four-bytes
-add-four-bytes c = search needs
-
-four-bytes-requires : tie.Need-four-bytes-requires
-four-bytes-requires c κs = search needs
-
-cast-result-2 : tie.Need-cast-result-2
-cast-result-2 c = search needs
-
-add-result : tie.Need-add-result
-add-result c = search needs
+swap-eight-requires : tie.Need-swap-eight-requires
+swap-eight-requires c κs = search needs
 
 returns : tie.Need-returns
-returns c = rw (c .before .two-bytes .ensures .0, c .four-bytes .ensures) (address-of-six _ _)
+returns c = rw (c .swap-eight .ensures, c .before .eight-low .ensures) (address-of-eight _ _ (λ i. omega (arith, c .before .before .shared-slice-known .given i)))
 
 pub address-at-spec : {M : Type 1} → statement M
-address-at-spec =
-    tie.close
-    (tie.spec
-    two-bytes-requires
-    cast-result
-    mul-result
-    add-four-bytes
-    four-bytes-requires
-    cast-result-2
-    add-result
-    returns)
+address-at-spec = tie.close (tie.spec eight-low-requires swap-eight-requires returns)

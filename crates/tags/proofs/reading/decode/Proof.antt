@@ -2,7 +2,7 @@
 use mathlib.Core.Path.{sym, _∙_}
 use native.Mathlib.Omega.{arith}
 use borrow.Author.Needs.{needs}
-use Rattle.tags.specs.Reading.{decoded-none, decoded-one, decoded-two}
+use Rattle.tags.proofs.Numbers.{decoded-none, decoded-one, decoded-two}
 use Rattle.tags.proofs.reading.decode.Statement.{statement}
 use Rattle.tags.proofs.reading.decode.Tie as tie
 

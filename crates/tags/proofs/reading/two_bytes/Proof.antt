@@ -1,46 +1,18 @@
--- `tags::reading::two_bytes` meets its contract: each byte is below 256. Assumes nothing.
-use Prim.Native.Nat.{_+_}
-use mathlib.Core.Path.{refl}
+-- `tags::reading::two_bytes` meets its contract: two bytes turned round. Assumes nothing.
 use native.Mathlib.Omega.{arith}
 use borrow.Author.Needs.{needs}
-use Rattle.rules.specs.Tags.{twoBytesAt}
+use Rattle.tags.proofs.Swaps.{swap-two}
 use Rattle.tags.proofs.reading.two_bytes.Statement.{statement}
 use Rattle.tags.proofs.reading.two_bytes.Tie as tie
 
-shared-slice-read-result : tie.Need-shared-slice-read-result
-shared-slice-read-result c = search needs
+two-low-requires : tie.Need-two-low-requires
+two-low-requires c κs = search needs
 
-cast-result : tie.Need-cast-result
-cast-result c = omega (arith, c .shared-slice-known .given (c .before .args .i))
-
-mul-result : tie.Need-mul-result
-mul-result c = omega (arith, c .shared-slice-known .given (c .before .args .i))
-
-add-result : tie.Need-add-result
-add-result c = search needs
-
-shared-slice-read-result-2 : tie.Need-shared-slice-read-result-2
-shared-slice-read-result-2 c = search needs
-
-cast-result-2 : tie.Need-cast-result-2
-cast-result-2 c = omega (arith, c .shared-slice-known2 .given (c .before .before .args .i + 1))
-
-add-result-2 : tie.Need-add-result-2
-add-result-2 c = omega (arith, c .before .shared-slice-known .given (c .before .before .args .i), c .shared-slice-known2 .given (c .before .before .args .i + 1))
+swap-two-requires : tie.Need-swap-two-requires
+swap-two-requires c κs = search needs
 
 returns : tie.Need-returns
-unfolding twoBytesAt
-returns c = (refl, omega (arith, c .before .shared-slice-known .given (c .before .before .args .i), c .shared-slice-known2 .given (c .before .before .args .i + 1)))
+returns c = (rw (c .swap-two .ensures .0, c .before .two-low .ensures .0) (swap-two _ _ (λ i. omega (arith, c .before .before .shared-slice-known .given i))), c .swap-two .ensures .1)
 
 pub two-bytes-spec : {M : Type 1} → statement M
-two-bytes-spec =
-    tie.close
-    (tie.spec
-    shared-slice-read-result
-    cast-result
-    mul-result
-    add-result
-    shared-slice-read-result-2
-    cast-result-2
-    add-result-2
-    returns)
+two-bytes-spec = tie.close (tie.spec two-low-requires swap-two-requires returns)

@@ -1,7 +1,7 @@
 -- `tags::stack::pop` meets its contract: an empty stack stays, another loses its first. Assumes nothing.
 use native.Mathlib.Omega.{arith}
 use borrow.Author.Needs.{needs}
-use Rattle.tags.specs.Stacks.{pop-none, pop-is}
+use Rattle.tags.proofs.Stacks.{pop-none, pop-is}
 use Rattle.tags.proofs.stack.pop.Statement.{statement}
 use Rattle.tags.proofs.stack.pop.Tie as tie
 

@@ -1,6 +1,6 @@
 -- `tags::stack::push` meets its contract, by what a push makes of a stack. Assumes nothing.
 use borrow.Author.Needs.{needs}
-use Rattle.tags.specs.Stacks.{push-is}
+use Rattle.tags.proofs.Stacks.{push-is}
 use Rattle.tags.proofs.stack.push.Statement.{statement}
 use Rattle.tags.proofs.stack.push.Tie as tie
 

@@ -1,86 +1,62 @@
--- `take_out::serving::served` meets its contract: one queue a turn, the highest first. Assumes nothing.
-use Prim.Native.Nat.{_≤_}
-use mathlib.Core.Path.{_≡_, sym, _∙_}
+-- `take_out::serving::served` meets its contract. Assumes nothing.
+use mathlib.Core.Path.{sym, _∙_}
 use native.Mathlib.Omega.{arith}
+use borrow.Author.Tests.{not-true, not-false}
+use Rattle.queues.proofs.WaitingBits.{highest-waits}
+use Rattle.take_out.proofs.Service.{word-out, none-waits, oldest-out, oldest-served}
 use borrow.Author.Needs.{needs}
-use Rattle.take_out.specs.Serving.{servedBelow, served}
-use Rattle.take_out.proofs.Service.{search-starts, search-ends, met-first, met-damage, met-nothing}
 use Rattle.take_out.proofs.serving.served.Statement.{statement}
 use Rattle.take_out.proofs.serving.served.Tie as tie
 
-abbrev Inv-loop : tie.InvT-loop
-Inv-loop links n port queue₀ queue = (servedBelow queue n port links ≡ served n port links) × (queue ≤ 4)
+in-range-requires : tie.Need-in-range-requires
+in-range-requires c κs = search needs
 
-abbrev μ-loop : tie.MeasureT-loop
-μ-loop links n port queue₀ queue = queue
+returns : tie.Need-returns
+returns c = let s = c .before .before .before in word-out (s .args .n) (s .args .port) (s .args .links .now) (sym (c .before .in-range .ensures) ∙ not-true _ (c .if1 .taken))
 
-loop-holds : tie.Need-loop-holds Inv-loop μ-loop
-loop-holds c = (search-starts (c .before .args .n) (c .before .args .port) (c .before .args .links .now), omega arith)
+highest-waiting-requires : tie.Need-highest-waiting-requires
+highest-waiting-requires c κs = search needs
 
-mul-ring : tie.Need-mul-ring Inv-loop μ-loop
-mul-ring c = search needs
+enum-known-highest : tie.Need-enum-known-highest
+enum-known-highest c = search needs
 
-sub-ring : tie.Need-sub-ring Inv-loop μ-loop
-sub-ring c = search needs
-
-add-ring : tie.Need-add-ring Inv-loop μ-loop
-add-ring c = search needs
-
-oldest-requires : tie.Need-oldest-requires Inv-loop μ-loop
-oldest-requires c κs = search needs
-
-enum-known-first : tie.Need-enum-known-first Inv-loop μ-loop
-enum-known-first c = search needs
-
-sub-t11 : tie.Need-sub-t11 Inv-loop μ-loop
-sub-t11 c = search needs
-
-cast-t12 : tie.Need-cast-t12 Inv-loop μ-loop
-cast-t12 c = search needs
-
-returns : tie.Need-returns Inv-loop μ-loop
-returns c = let s = c .before .before .before .before .before .before .before in met-first (s .args .n) (s .args .port) (s .args .links .now) (c .before .before .before .before .before .loop .queue) (c .before .before .before .before .loop-test .taken) _ (sym (c .before .before .before .oldest .ensures) ∙ c .before .first .given .1) ∙ c .before .before .before .before .before .loop .inv .0
-
-enum-told : tie.Need-enum-told Inv-loop μ-loop
+enum-told : tie.Need-enum-told
 enum-told c = search needs
 
-enum-told-2 : tie.Need-enum-told-2 Inv-loop μ-loop
-enum-told-2 c = search needs
+returns-2 : tie.Need-returns-2
+returns-2 c =
+    let s = c .before .before .before .before .before .before in
+    none-waits (s .args .n) (s .args .port) (s .args .links .now) (sym (c .before .before .before .before .in-range .ensures) ∙ not-false _ (c .before .before .before .if1 .left)) (sym (c .before .before .highest-waiting .ensures) ∙ c .enum-told .given .1)
 
-returns-2 : tie.Need-returns-2 Inv-loop μ-loop
-returns-2 c = let s = c .before .before .before .before .before .before in met-damage (s .args .n) (s .args .port) (s .args .links .now) (c .before .before .before .before .loop .queue) (c .before .before .before .loop-test .taken) (sym (c .before .before .oldest .ensures) ∙ c .enum-told2 .given .1) ∙ c .before .before .before .before .loop .inv .0
+oldest-word-requires : tie.Need-oldest-word-requires
+oldest-word-requires c κs =
+    let s = c .before .before .before .before .before .before .before in
+    omega (arith, s .pre, highest-waits _ _ (sym (c .before .before .before .highest-waiting .ensures) ∙ c .before .highest .given .1) .0)
 
-sub-queue : tie.Need-sub-queue Inv-loop μ-loop
-sub-queue c = search needs
+cast-if2 : tie.Need-cast-if2
+cast-if2 c = search needs
 
-loop-less : tie.Need-loop-less Inv-loop μ-loop
-loop-less c = search needs
+returns-3 : tie.Need-returns-3
+returns-3 c =
+    let s = c .before .before .before .before .before .before .before .before .before in
+    oldest-out (s .args .n) (s .args .port) (s .args .links .now) (sym (c .before .before .before .before .before .before .before .in-range .ensures) ∙ not-false _ (c .before .before .before .before .before .before .if1 .left)) _ _ (sym (c .before .before .before .before .before .highest-waiting .ensures) ∙ c .before .before .before .highest .given .1) (c .before .oldest-word .ensures) (c .if2 .taken)
 
-loop-again : tie.Need-loop-again Inv-loop μ-loop
-loop-again c = let s = c .before .before .before .before .before .before in (met-nothing (s .args .n) (s .args .port) (s .args .links .now) (c .before .before .before .before .loop .queue) (c .before .before .before .loop-test .taken) (sym (c .before .before .oldest .ensures) ∙ c .enum-told .given .1) ∙ c .before .before .before .before .loop .inv .0, omega arith)
-
-returns-3 : tie.Need-returns-3 Inv-loop μ-loop
-returns-3 c = search-ends (c .before .before .before .args .n) (c .before .before .before .args .port) (c .before .before .before .args .links .now) (c .before .loop .queue) (c .loop-test .left) ∙ c .before .loop .inv .0
+returns-4 : tie.Need-returns-4
+returns-4 c =
+    let s = c .before .before .before .before .before .before .before .before .before in
+    oldest-served (s .args .n) (s .args .port) (s .args .links .now) (sym (c .before .before .before .before .before .before .before .in-range .ensures) ∙ not-false _ (c .before .before .before .before .before .before .if1 .left)) _ _ (sym (c .before .before .before .before .before .highest-waiting .ensures) ∙ c .before .before .before .highest .given .1) (c .before .oldest-word .ensures) (c .if2 .left)
 
 pub served-spec : {M : Type 1} → statement M
 served-spec =
     tie.close
     (tie.spec
-    Inv-loop
-    μ-loop
-    loop-holds
-    mul-ring
-    sub-ring
-    add-ring
-    oldest-requires
-    enum-known-first
-    sub-t11
-    cast-t12
+    in-range-requires
     returns
+    highest-waiting-requires
+    enum-known-highest
     enum-told
-    enum-told-2
     returns-2
-    sub-queue
-    loop-less
-    loop-again
-    returns-3)
+    oldest-word-requires
+    cast-if2
+    returns-3
+    returns-4)

@@ -1,0 +1,17 @@
+-- `address_numbers::is_entry` meets its contract. Assumes nothing.
+use Rattle.address_numbers.proofs.Matches.{match-whole}
+use borrow.Author.Needs.{needs}
+use Rattle.address_numbers.proofs.is_entry.Statement.{statement}
+use Rattle.address_numbers.proofs.is_entry.Tie as tie
+
+mul-result : tie.Need-mul-result
+mul-result c = search needs
+
+add-result : tie.Need-add-result
+add-result c = search needs
+
+returns : tie.Need-returns
+returns c = match-whole _ _
+
+pub is-entry-spec : {M : Type 1} → statement M
+is-entry-spec = tie.close (tie.spec mul-result add-result returns)

@@ -1,0 +1,12 @@
+// The counters of a port that a frame that arrives is counted by, but for those of the reasons.
+pub const OFFERED: usize = 0;
+
+pub const ACCEPTED: usize = 14;
+
+pub const NOT_LEARNED: usize = 15;
+
+pub const QUEUED: usize = 16;
+
+pub const STATE_OUT: usize = 17;
+
+pub const QUEUE_OUT: usize = 18;

@@ -1,0 +1,2 @@
+pub mod Operated
+pub mod TagRuns

@@ -1,0 +1,10 @@
+pub mod Runs
+pub mod EntryWords
+pub mod CounterLaws
+pub mod FindLaws
+pub mod RecordLaws
+pub mod SameLaws
+pub mod SettingsAlike
+pub mod SettingsLaws
+pub mod TableLaws
+pub mod TableSteps

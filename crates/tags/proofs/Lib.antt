@@ -1,0 +1,4 @@
+pub mod Swaps
+pub mod Laws
+pub mod Stacks
+pub mod Numbers
