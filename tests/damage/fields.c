@@ -1,8 +1,8 @@
 /* The classes of fields of docs/LAYOUT.md, and values at the edges of their ranges, beyond them, and any. */
 #include "fields.h"
 
-#include "expected.h"
 #include "random.h"
+#include "request.h"
 
 #include <stdio.h>
 #include <string.h>
@@ -11,8 +11,6 @@
 enum { UP_TO_N = 0xFFFFFFF0u, UP_TO_LAST, ANY };
 
 enum sort { IN_FIXED_PART, IN_QUEUES, IN_CELL_RECORD, IN_FRAME_RECORD, IN_STORED_HEADER, IN_FRAME_BYTES, IN_ADDRESS };
-
-enum { FIXED_WORDS = 1024, CELL_WORDS = 20, FIRST_FREE = 4, PORT_RECORD = 384, PORT_WORDS = 128, WAITING = 34, OLDEST = 40 };
 
 /* Words of link memory: first, first + step, .. `count` times, each with the `width` words from there on; of them the `bits` bits from bit
  * `bit` on (0 bits: the whole word). Queues: words of the record of a port where something waits. Cell and frame records: words of a cell's
@@ -86,14 +84,19 @@ static struct field_class {
 
 enum { CLASSES = sizeof classes / sizeof *classes };
 
-static uint8_t *cells;
-static uint32_t *links;
-static uint64_t *addresses;
-static uint32_t n;
+static struct lent l;
+
+struct lent own_memories(void)
+{
+    return (struct lent){memories[CELLS].end - memories[CELLS].length,
+                         (uint32_t *)memories[LINKS].end - memories[LINKS].length,
+                         (uint64_t *)memories[ADDRESSES].end - memories[ADDRESSES].length,
+                         (uint32_t)(memories[CELLS].length / CELL_BYTES)};
+}
 
 static uint32_t value_for(const struct field_class *c, uint32_t old)
 {
-    uint32_t high = c->high == UP_TO_N ? n : c->high == UP_TO_LAST ? n - 1 : c->high == ANY ? 0xFFFFFFFFu : c->high;
+    uint32_t high = c->high == UP_TO_N ? l.n : c->high == UP_TO_LAST ? l.n - 1 : c->high == ANY ? 0xFFFFFFFFu : c->high;
     const uint32_t values[] = {c->low - 1, c->low, c->low + 1, high - 1, high, high + 1, 0, 1, old - 1, old + 1, old ^ 1,
                                0xFFFFFFFFu, 0x80000000u, 0x7FFFFFFFu, 65535, 65536, (uint32_t)random_number()};
     /* A good value that is not the right one makes cycles, chains with shared cells and entries that come twice. */
@@ -102,15 +105,13 @@ static uint32_t value_for(const struct field_class *c, uint32_t old)
     return values[below(sizeof values / sizeof *values)];
 }
 
-static uint32_t *record_of(uint32_t cell) { return links + FIXED_WORDS + CELL_WORDS * cell; }
-
 /* Mostly a port where something waits, and one of the queues that do. */
 static void waiting_queue(uint32_t *port, uint32_t *queue)
 {
     *port = below(5);
     *queue = below(4);
     for (uint32_t tries = 0; tries < 20 && !one_in(8); tries++) {
-        if ((links[PORT_RECORD + PORT_WORDS * *port + WAITING] >> *queue & 1) != 0)
+        if ((port_record(&l, *port)[WAITING] >> *queue & 1) != 0)
             return;
         *queue = (*queue + 1) % 4;
         *port = (*port + (*queue == 0)) % 5;
@@ -122,19 +123,19 @@ static uint32_t first_cell(uint32_t steps)
 {
     uint32_t port, queue;
     waiting_queue(&port, &queue);
-    uint32_t cell = links[PORT_RECORD + PORT_WORDS * port + OLDEST + 2 * queue];
-    for (; steps > 0 && cell < n; steps--)
-        cell = record_of(cell)[2 + port];
-    return cell < n ? cell : below(n);
+    uint32_t cell = port_record(&l, port)[OLDEST + 2 * queue];
+    for (; steps > 0 && cell < l.n; steps--)
+        cell = cell_record(&l, cell)[2 + port];
+    return cell < l.n ? cell : below(l.n);
 }
 
 /* Mostly a cell of a waiting frame or of the free list's beginning. */
 static uint32_t cell_in_use(uint32_t steps)
 {
-    uint32_t cell = one_in(4) ? links[FIRST_FREE] : first_cell(one_in(2) ? 0 : below(3));
-    for (; steps > 0 && cell < n; steps--)
-        cell = record_of(cell)[0];
-    return cell < n ? cell : below(n);
+    uint32_t cell = one_in(4) ? l.links[FIRST_FREE] : first_cell(one_in(2) ? 0 : below(3));
+    for (; steps > 0 && cell < l.n; steps--)
+        cell = cell_record(&l, cell)[0];
+    return cell < l.n ? cell : below(l.n);
 }
 
 static void overwrite(uint64_t *number, const struct field_class *c, uint64_t key)
@@ -150,26 +151,26 @@ static void damage_address(const struct field_class *c)
     if (c->width == 64 && one_in(4)) {
         /* every place in use */
         for (uint32_t place = 0; place < 4112; place++)
-            if (addresses[place] == 0)
-                addresses[place] = random_number() << 12 | 2048 | below(5) << 2 | below(4);
+            if (l.addresses[place] == 0)
+                l.addresses[place] = random_number() << 12 | 2048 | below(5) << 2 | below(4);
         return;
     }
     if (c->width < 32 && one_in(4)) {
         /* every entry: a search meets its match alone */
         for (uint32_t place = 0; place < 4112; place++)
-            if (addresses[place] != 0)
-                overwrite(&addresses[place], c, key);
+            if (l.addresses[place] != 0)
+                overwrite(&l.addresses[place], c, key);
         return;
     }
     uint32_t turn = below(20);
-    for (uint32_t tries = 0; tries < 20 && addresses[place_of(key, turn)] == 0 && !one_in(40); tries++)
+    for (uint32_t tries = 0; tries < 20 && l.addresses[place_of(key, turn)] == 0 && !one_in(40); tries++)
         turn = (turn + 1) % 20;
-    overwrite(&addresses[one_in(8) ? below(4112) : place_of(key, turn)], c, key);
+    overwrite(&l.addresses[one_in(8) ? below(4112) : place_of(key, turn)], c, key);
 }
 
 static void damage_cells(const struct field_class *c)
 {
-    uint8_t *at = cells + 80 * (c->sort == IN_FRAME_BYTES ? cell_in_use(below(3)) : first_cell(below(2))) + c->first;
+    uint8_t *at = l.cells + 80 * (c->sort == IN_FRAME_BYTES ? cell_in_use(below(3)) : first_cell(below(2))) + c->first;
     if (c->sort == IN_FRAME_BYTES)
         at += below(c->width);
     uint32_t count = c->sort == IN_FRAME_BYTES ? 1 : c->width, value = 0;
@@ -192,8 +193,8 @@ static void damage_links(const struct field_class *c)
     if (c->sort == IN_FRAME_RECORD)
         at += FIXED_WORDS + CELL_WORDS * first_cell(below(3));
     uint32_t mask = c->bits == 0 ? 0xFFFFFFFFu : ((1u << c->bits) - 1) << c->bit;
-    uint32_t value = value_for(c, (links[at] & mask) >> c->bit);
-    links[at] = (links[at] & ~mask) | (value << c->bit & mask);
+    uint32_t value = value_for(c, (l.links[at] & mask) >> c->bit);
+    l.links[at] = (l.links[at] & ~mask) | (value << c->bit & mask);
 }
 
 void damage_a_field(void)
@@ -202,10 +203,7 @@ void damage_a_field(void)
     /* Fields of waiting frames are few among the classes, and a call meets few of them. */
     while (one_in(2) && c->sort == IN_FIXED_PART)
         c = &classes[below(CLASSES)];
-    cells = memories[CELLS].end - memories[CELLS].length;
-    links = (uint32_t *)memories[LINKS].end - memories[LINKS].length;
-    addresses = (uint64_t *)memories[ADDRESSES].end - memories[ADDRESSES].length;
-    n = (uint32_t)(memories[CELLS].length / 80);
+    l = own_memories();
     c->written++;
     if (c->sort == IN_ADDRESS) {
         damage_address(c);

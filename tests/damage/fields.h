@@ -2,7 +2,11 @@
 #ifndef FIELDS_H
 #define FIELDS_H
 
+#include "layout.h"
 #include "memory.h"
+
+/* The switch's own memories. */
+struct lent own_memories(void);
 
 /* Writes a value into one field of a class chosen at random, in memories of the lengths that the switch's fresh call
  * got; the copies are kept alike. */

@@ -134,7 +134,7 @@ bool guard_kept(const struct memory *m, size_t lent_length, bool all)
     return same(m->end - from, m->copy_end - from, from - lent);
 }
 
-bool contents_kept(const struct memory *m, size_t lent_length)
+bool as_copied(const struct memory *m, size_t lent_length)
 {
     size_t lent = bytes_of(m, lent_length);
     return same(m->end - lent, m->copy_end - lent, lent);

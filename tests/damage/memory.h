@@ -18,7 +18,7 @@ struct memory {
     size_t length;               /* elements that the switch's fresh call got, or that the last call had */
     size_t room;                 /* bytes of the views, all before `end` */
     uint8_t *end, *fixed_end;    /* of the view that can be written, and of the one that cannot */
-    uint8_t *copy_end;           /* of the bytes as they were before the call */
+    uint8_t *copy_end;           /* of the bytes as they were before the call, and then as they must be after it */
 };
 
 extern struct memory memories[MEMORIES];
@@ -40,8 +40,8 @@ void remember(struct memory *, size_t length);
 /* Every byte before the lent part is as it was: up to GUARD bytes, or with `all` every one. */
 bool guard_kept(const struct memory *, size_t lent_length, bool all);
 
-/* Every byte of the lent part is as it was. */
-bool contents_kept(const struct memory *, size_t lent_length);
+/* Every byte of the lent part is as the copy has it. */
+bool as_copied(const struct memory *, size_t lent_length);
 
 static inline size_t bytes_of(const struct memory *m, size_t length) { return length * m->element; }
 

@@ -33,15 +33,14 @@ static uint32_t around(uint32_t low, uint32_t high)
 {
     if (!one_in(30))
         return one_in(6) ? (one_in(2) ? low : high) : low + below(high - low + 1);
-    const uint32_t beyond[] = {low - 1, high + 1, high + 256, 255, 65536 + high, 0x80000000u, 0xFFFFFFFFu,
-                               (uint32_t)random_number()};
-    return beyond[below(sizeof beyond / sizeof *beyond)];
+    const uint32_t beyond[] = {low - 1, high + 256, 255, 65536 + high, 0x80000000u, 0xFFFFFFFFu, (uint32_t)random_number()};
+    return one_in(3) ? high + 1 : beyond[below(sizeof beyond / sizeof *beyond)];
 }
 
-static uint32_t few_vids(void)
+uint32_t few_vids(void)
 {
     const uint32_t edges[] = {0, 1, 4094, 4095};
-    return one_in(8) ? edges[below(4)] : one_in(3) ? 1 : 2 + below(22);
+    return one_in(8) ? edges[below(4)] : one_in(3) ? 1 : 2 + below(one_in(3) ? 22 : 6);
 }
 
 uint64_t few_addresses(void)
@@ -86,16 +85,20 @@ static void write_frame(uint32_t length)
     remember(m, length);
 }
 
-/* The lengths that the switch has; now and then one memory gets another. */
+/* The lengths that the switch has; now and then those of one cell fewer, or one memory gets another. */
 static void choose_lengths(struct request *r)
 {
     for (int i = 0; i < MEMORIES; i++)
         r->length[i] = memories[i].length;
+    if (one_in(50)) {
+        r->length[CELLS] -= 80;
+        r->length[LINKS] -= 20;
+    }
     if (!one_in(r->call == FRESH ? 3 : 16))
         return;
     int i = (int)below(FRAME);
     struct memory *m = &memories[i];
-    const size_t others[] = {0, 0, 1, m->length - 1, m->length + 1, m->length / 2, m->length - 24, m->length + 24,
+    const size_t others[] = {0, 0, 1, m->length - 1, m->length + 1, m->length / 2, m->length - 20, m->length + 20,
                              m->length - 80, m->length + 80, m->most, below((uint32_t)m->most + 1)};
     size_t length = others[below(sizeof others / sizeof *others)];
     r->length[i] = length > m->most ? m->most : length;
@@ -109,7 +112,7 @@ struct request random_request(enum call call)
     r.number = around(0, 20);
     r.state = one_in(3) ? around(0, 4) : 4 * below(2);
     r.assignment = around(0, 2);
-    r.vid = one_in(12) ? around(1, 4094) : call == PORT && one_in(2) ? 1 : few_vids();
+    r.vid = one_in(12) ? around(1, 4094) : call == PORT && one_in(2) ? 1 : call == VLAN && one_in(2) ? 2 + below(22) : few_vids();
     r.pcp = around(0, 7);
     r.dei = around(0, 1);
     r.flags = one_in(4) ? around(0, 7) : 0;

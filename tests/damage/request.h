@@ -33,6 +33,7 @@ struct request {
 
 /* Addresses and VIDs are taken from few, so that calls meet what others wrote. */
 uint64_t few_addresses(void);
+uint32_t few_vids(void);
 
 /* A random call for memories of their switch's lengths; most arguments are in range. */
 struct request random_request(enum call);

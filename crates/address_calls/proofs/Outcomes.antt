@@ -14,9 +14,9 @@ use Rattle.rules.specs.Numbers.{mostGid}
 use Rattle.rules.specs.Arguments.{isAddress}
 use Rattle.rules.specs.Tags.{isGroup}
 use Rattle.rules.specs.Addresses.{key}
-use Rattle.lent.specs.declared.Answer.{Answer}
-use Rattle.lent.specs.Lengths.{addressesFit}
-use Rattle.lent.specs.Answers.{refusedBy, doneWith}
+use Rattle.layout.specs.declared.answers.Answer.{Answer}
+use Rattle.layout.specs.Lengths.{addressesFit}
+use Rattle.layout.specs.Answers.{refusedBy, doneWith}
 use Rattle.addresses.specs.Numbers.{allInRange}
 use Rattle.addresses.specs.Search.{lookUp, placeOf, full, damaged}
 use Rattle.addresses.specs.declared.LookUp.{LookUp}

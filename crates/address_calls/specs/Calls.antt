@@ -6,9 +6,9 @@ use mathlib.Core.List.{List, [], _∷_, _++_}
 use Rattle.rules.specs.Lines.{first}
 use Rattle.rules.specs.Refusals.{Lines, ageLines, staticLines, removeLines}
 use Rattle.rules.specs.Addresses.{key}
-use Rattle.lent.specs.declared.Answer.{Answer}
-use Rattle.lent.specs.Lengths.{addressesFit}
-use Rattle.lent.specs.Answers.{doneWith, lengthLine, damageLine, orRefused}
+use Rattle.layout.specs.declared.answers.Answer.{Answer}
+use Rattle.layout.specs.Lengths.{addressesFit}
+use Rattle.layout.specs.Answers.{doneWith, lengthLine, damageLine, orRefused}
 use Rattle.addresses.specs.Numbers.{allInRange}
 use Rattle.addresses.specs.declared.LookUp.{LookUp}
 use Rattle.addresses.specs.Search.{lookUp, matched, full, damaged}

@@ -4,8 +4,8 @@ use mathlib.Core.Bool.{not}
 use mathlib.Core.List.{List, [], _∷_}
 use Rattle.rules.specs.Lines.{line, first}
 use Rattle.rules.specs.Refusals.{placesInUse, addressNotThere}
-use Rattle.lent.specs.declared.Answer.{Answer}
-use Rattle.lent.specs.Answers.{doneWith, damageLine, orRefused}
+use Rattle.layout.specs.declared.answers.Answer.{Answer}
+use Rattle.layout.specs.Answers.{doneWith, damageLine, orRefused}
 use Rattle.addresses.specs.Search.{lookUp, full, damaged}
 use Rattle.addresses.specs.Writes.{staticBy, removedBy}
 use Rattle.address_calls.specs.Calls.{there}

@@ -3,17 +3,27 @@ use addresses::LookUp;
 use addresses::all_in_range;
 use addresses::key_of;
 use addresses::whole_search;
-use lent::Answer;
-use lent::addresses_fit;
-use lent::done;
-use lent::refused;
+use layout::answers::Answer;
+use layout::answers::done;
+use layout::answers::refused;
+use layout::lengths::addresses_fit;
+use layout::numbers::ADDRESSES;
+use layout::numbers::LAST_GID;
+use layout::numbers::LAST_PORT;
+use layout::refusals::ADDRESS_NOT_THERE;
+use layout::refusals::GROUP_ADDRESS;
+use layout::refusals::MEMORY_DAMAGED;
+use layout::refusals::MEMORY_LENGTH;
+use layout::refusals::OUT_OF_RANGE;
+use layout::refusals::PLACES_IN_USE;
+use layout::refusals::PORT_ABOVE_FOUR;
 use tags::reading::is_group;
 ghost use mathlib.Core.Path.{_≡_};
 ghost use mathlib.Core.Bool.{_&&_, not};
 ghost use Prim.Native.Nat.{_<_, _≤_, _^_};
 ghost use lib.Dec.{leb};
 ghost use lib.ListN.{length};
-ghost use Rattle.rules.specs.Numbers.{mostGid};
+ghost use Rattle.rules.specs.Numbers.{mostGid, placeCount};
 ghost use Rattle.rules.specs.Arguments.{isAddress};
 ghost use Rattle.addresses.specs.Search.{full, damaged};
 ghost use Rattle.address_calls.specs.Calls.{ageCall, staticCall, there, removeCall};
@@ -28,15 +38,15 @@ pub fn age(addresses: &mut [u64]) -> Answer
             let gone = addresses::age(addresses);
             return done(gone, 0);
         }
-        return refused(10);
+        return refused(MEMORY_DAMAGED);
     }
-    refused(1)
+    refused(MEMORY_LENGTH)
 }
 
 fn is_key(gid: u32, address: u64) -> bool
     ensures { λ r. ⌜ r ≡ leb gid mostGid && isAddress address ⌝ }
 {
-    (gid <= 15) & (address < 281474976710656)
+    (gid <= LAST_GID) & (address < ADDRESSES)
 }
 
 fn is_full(found: LookUp) -> bool
@@ -73,15 +83,15 @@ fn is_damaged(found: LookUp) -> bool
 }
 
 fn place_static(addresses: &mut [u64], key: u64, port: u32) -> Answer
-    requires { ⌜ (length (now addresses) ≡ 4112) × (key < 2 ^ 52) × (port ≤ 4) ⌝ }
+    requires { ⌜ (length (now addresses) ≡ placeCount) × (key < 2 ^ 52) × (port ≤ 4) ⌝ }
     ensures { λ r. ⌜ (r, now (addresses .exit)) ≡ staticPlaced (now (addresses .entry)) key port ⌝ }
 {
     let found = whole_search(addresses, key);
     if is_full(found) {
-        return refused(8);
+        return refused(PLACES_IN_USE);
     }
     if is_damaged(found) {
-        return refused(10);
+        return refused(MEMORY_DAMAGED);
     }
     addresses::set_static(addresses, found, key, port);
     done(0, 0)
@@ -92,30 +102,30 @@ pub fn set_static(addresses: &mut [u64], gid: u32, port: u32, address: u64) -> A
     ensures { λ r. ⌜ (r, now (addresses .exit)) ≡ staticCall (now (addresses .entry)) gid port address ⌝ }
 {
     if addresses_fit(addresses) {
-        if port > 4 {
-            return refused(2);
+        if port > LAST_PORT {
+            return refused(PORT_ABOVE_FOUR);
         }
         if is_key(gid, address) {
             if is_group(address) {
-                return refused(4);
+                return refused(GROUP_ADDRESS);
             }
             return place_static(addresses, key_of(gid, address), port);
         }
-        return refused(3);
+        return refused(OUT_OF_RANGE);
     }
-    refused(1)
+    refused(MEMORY_LENGTH)
 }
 
 fn remove_placed(addresses: &mut [u64], key: u64) -> Answer
-    requires { ⌜ (length (now addresses) ≡ 4112) × (key < 2 ^ 52) ⌝ }
+    requires { ⌜ (length (now addresses) ≡ placeCount) × (key < 2 ^ 52) ⌝ }
     ensures { λ r. ⌜ (r, now (addresses .exit)) ≡ removePlaced (now (addresses .entry)) key ⌝ }
 {
     let found = whole_search(addresses, key);
     if is_missing(found) {
-        return refused(9);
+        return refused(ADDRESS_NOT_THERE);
     }
     if is_damaged(found) {
-        return refused(10);
+        return refused(MEMORY_DAMAGED);
     }
     addresses::remove(addresses, found);
     done(0, 0)
@@ -129,7 +139,7 @@ pub fn remove(addresses: &mut [u64], gid: u32, address: u64) -> Answer
         if is_key(gid, address) {
             return remove_placed(addresses, key_of(gid, address));
         }
-        return refused(3);
+        return refused(OUT_OF_RANGE);
     }
-    refused(1)
+    refused(MEMORY_LENGTH)
 }

@@ -7,3 +7,4 @@ pub mod Ranges
 pub mod LookUps
 pub mod Steps
 pub mod Frames
+pub mod Matches

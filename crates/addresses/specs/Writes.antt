@@ -7,9 +7,9 @@ use lib.ListN.{getD, set}
 use Rattle.rules.specs.Choice.{if_then_else_}
 use Rattle.rules.specs.Numbers.{placeCount}
 use Rattle.rules.specs.Addresses.{removed}
-use Rattle.address_numbers.specs.Numbers.{staticIn, tableOf}
-pub use Rattle.address_numbers.specs.Changes.{learnedNumber, staticNumber}
-unfoldable pub use Rattle.address_numbers.specs.Changes.{markedNumber, olderNumber}
+use Rattle.addresses.specs.Numbers.{staticIn, tableOf}
+pub use Rattle.addresses.specs.Changes.{learnedNumber, staticNumber}
+unfoldable pub use Rattle.addresses.specs.Changes.{markedNumber, olderNumber}
 use Rattle.addresses.specs.declared.LookUp.{LookUp}
 use Rattle.addresses.specs.declared.LookUp.the-variants.{Found, Vacant, Full, Damaged}
 

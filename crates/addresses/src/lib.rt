@@ -1,9 +1,13 @@
 // Address memory: 4,112 numbers, searched by key. What a change writes is found by a look-up before, so that each
 // change is one write.
+pub mod numbers; // the number of an entry
 
+use layout::numbers::ADDRESSES;
+use layout::numbers::PLACES;
 ghost use mathlib.Core.Path.{_≡_};
 ghost use Prim.Native.Nat.{_<_, _≤_, _^_};
 ghost use lib.ListN.{length, replicate};
+ghost use Rattle.rules.specs.Numbers.{placeCount};
 ghost use Rattle.rules.specs.Addresses.{key, bucketOf, run};
 ghost use Rattle.addresses.specs.Numbers.{allInRange};
 ghost use Rattle.addresses.specs.Search.{lookUp, placeOf};
@@ -11,7 +15,7 @@ ghost use Rattle.addresses.specs.Turns.{placeAt, emptySoFar, unfound, an
 ghost use Rattle.addresses.specs.Writes.{markedBy, learnedBy, staticBy, removedBy, agedBy};
 
 // No place: there are 4,112.
-const NO_PLACE: usize = 4112;
+const NO_PLACE: usize = PLACES;
 
 pub enum LookUp {
     // a match: its port and its place
@@ -29,7 +33,7 @@ pub fn key_of(gid: u32, address: u64) -> u64
     requires { ⌜ (gid ≤ 15) × (address < 2 ^ 48) ⌝ }
     ensures { λ r. ⌜ (r ≡ key gid address) × (r < 2 ^ 52) ⌝ }
 {
-    gid as u64 * 281474976710656 + address
+    gid as u64 * ADDRESSES + address
 }
 
 // The ten-bit groups of a key, joined by exclusive or: its upper three groups over its lower three, and then those
@@ -45,7 +49,7 @@ pub fn bucket_of(key: u64) -> usize
 // The place that a search meets in a turn from 0 to 19: the bucket's four, then the spares.
 fn place_at(bucket: usize, turn: usize) -> usize
     requires { ⌜ (bucket < 1024) × (turn < 20) ⌝ }
-    ensures { λ r. ⌜ (r ≡ placeAt bucket turn) × (r < 4112) ⌝ }
+    ensures { λ r. ⌜ (r ≡ placeAt bucket turn) × (r < placeCount) ⌝ }
 {
     if turn < 4 {
         return bucket * 4 + turn;
@@ -57,7 +61,7 @@ fn place_at(bucket: usize, turn: usize) -> usize
 fn first_empty(before: usize, number: u64, place: usize) -> usize
     ensures { λ r. ⌜ r ≡ emptySoFar before number place ⌝ }
 {
-    if address_numbers::is_used(number) {
+    if crate::numbers::is_used(number) {
         return before;
     }
     if before == NO_PLACE {
@@ -79,9 +83,9 @@ fn not_found(empty: usize) -> LookUp
 fn answer_at(number: u64, place: usize) -> LookUp
     ensures { λ r. ⌜ r ≡ answerAt number place ⌝ }
 {
-    if address_numbers::parts_in_range(number) {
+    if crate::numbers::parts_in_range(number) {
         return LookUp::Found {
-            port: address_numbers::port_of(number),
+            port: crate::numbers::port_of(number),
             place,
         };
     }
@@ -90,7 +94,7 @@ fn answer_at(number: u64, place: usize) -> LookUp
 
 // "The search takes the bucket's four places, then the sixteen spares; the first match ends it."
 pub fn whole_search(addresses: &[u64], key: u64) -> LookUp
-    requires { ⌜ (length (now addresses) ≡ 4112) × (key < 2 ^ 52) ⌝ }
+    requires { ⌜ (length (now addresses) ≡ placeCount) × (key < 2 ^ 52) ⌝ }
     ensures { λ r. ⌜ r ≡ lookUp (now (addresses .entry)) key ⌝ }
 {
     let bucket = bucket_of(key);
@@ -102,7 +106,7 @@ pub fn whole_search(addresses: &[u64], key: u64) -> LookUp
         }
         let place = place_at(bucket, turn);
         let number = addresses[place];
-        if address_numbers::is_entry(number, key) {
+        if crate::numbers::is_entry(number, key) {
             break 'search place;
         }
         empty = first_empty(empty, number, place);
@@ -113,8 +117,8 @@ pub fn whole_search(addresses: &[u64], key: u64) -> LookUp
 
 // The first of four places that has the key; NO_PLACE: none has.
 fn way_of(addresses: &[u64], from: usize, key: u64) -> usize
-    requires { ⌜ (length (now addresses) ≡ 4112) × (from < 4096) × (key < 2 ^ 52) ⌝ }
-    ensures { λ r. ⌜ (r ≡ firstWith (now (addresses .entry)) key (run from 4)) × (r ≤ 4112) ⌝ }
+    requires { ⌜ (length (now addresses) ≡ placeCount) × (from < 4096) × (key < 2 ^ 52) ⌝ }
+    ensures { λ r. ⌜ (r ≡ firstWith (now (addresses .entry)) key (run from 4)) × (r ≤ placeCount) ⌝ }
 {
     let mut way = 0;
     let found = 'ways: loop {
@@ -122,7 +126,7 @@ fn way_of(addresses: &[u64], from: usize, key: u64) -> usize
             return NO_PLACE;
         }
         let place = from + way;
-        if address_numbers::is_entry(addresses[place], key) {
+        if crate::numbers::is_entry(addresses[place], key) {
             break 'ways place;
         }
         way += 1;
@@ -132,7 +136,7 @@ fn way_of(addresses: &[u64], from: usize, key: u64) -> usize
 
 // The same answer, for frames: most matches stand in the bucket, so only its four places come before the whole search.
 pub fn look_up(addresses: &[u64], key: u64) -> LookUp
-    requires { ⌜ (length (now addresses) ≡ 4112) × (key < 2 ^ 52) ⌝ }
+    requires { ⌜ (length (now addresses) ≡ placeCount) × (key < 2 ^ 52) ⌝ }
     ensures { λ r. ⌜ r ≡ lookUp (now (addresses .entry)) key ⌝ }
 {
     let way = way_of(addresses, bucket_of(key) * 4, key);
@@ -150,7 +154,7 @@ pub fn mark(addresses: &mut [u64], found: LookUp)
     let LookUp::Found { port: _, place } = found else {
         return;
     };
-    addresses[place] = address_numbers::marked_number(addresses[place]);
+    addresses[place] = crate::numbers::marked_number(addresses[place]);
 }
 
 // Learns the key at the place that a look-up found before. Answers whether there was a place.
@@ -161,14 +165,14 @@ pub fn learn(addresses: &mut [u64], source: LookUp, key: u64, port: u32) -> bool
 {
     match source {
         LookUp::Found { port: _, place } => {
-            if address_numbers::is_static(addresses[place]) {
+            if crate::numbers::is_static(addresses[place]) {
                 return true;
             }
-            addresses[place] = address_numbers::learned_number(key, port);
+            addresses[place] = crate::numbers::learned_number(key, port);
             true
         }
         LookUp::Vacant(place) => {
-            addresses[place] = address_numbers::learned_number(key, port);
+            addresses[place] = crate::numbers::learned_number(key, port);
             true
         }
         LookUp::Full => false,
@@ -184,10 +188,10 @@ pub fn set_static(addresses: &mut [u64], found: LookUp, key: u64, port: u32)
 {
     match found {
         LookUp::Found { port: _, place } => {
-            addresses[place] = address_numbers::static_number(key, port);
+            addresses[place] = crate::numbers::static_number(key, port);
         }
         LookUp::Vacant(place) => {
-            addresses[place] = address_numbers::static_number(key, port);
+            addresses[place] = crate::numbers::static_number(key, port);
         }
         LookUp::Full => {}
         LookUp::Damaged => {}
@@ -211,7 +215,7 @@ pub fn all_in_range(addresses: &[u64]) -> bool
 {
     let mut place = 0;
     while place < addresses.len() {
-        if address_numbers::in_range(addresses[place]) {
+        if crate::numbers::in_range(addresses[place]) {
             place += 1;
         } else {
             return false;
@@ -222,15 +226,15 @@ pub fn all_in_range(addresses: &[u64]) -> bool
 
 // "Every unmarked non-static entry goes, every marked non-static one loses its mark." Answers how many went.
 pub fn age(addresses: &mut [u64]) -> u32
-    requires { ⌜ length (now addresses) ≡ 4112 ⌝ }
+    requires { ⌜ length (now addresses) ≡ placeCount ⌝ }
     ensures { λ r. ⌜ (r, now (addresses .exit)) ≡ agedBy (now (addresses .entry)) ⌝ }
 {
     let mut gone = 0;
     let mut place = 0;
-    while place < 4112 {
+    while place < PLACES {
         let number = addresses[place];
-        gone += address_numbers::goes(number);
-        addresses[place] = address_numbers::older_number(number);
+        gone += crate::numbers::goes(number);
+        addresses[place] = crate::numbers::older_number(number);
         place += 1;
     }
     gone

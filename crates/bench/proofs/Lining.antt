@@ -10,8 +10,8 @@ use lib.ListN.{length, take, drop, length-drop, drop-of-length-le}
 use lib.Seq.{take-all}
 use Rattle.slices.proofs.Runs.{sets-end}
 use Rattle.rules.specs.Refusals.{badRecord}
-use Rattle.lent.specs.declared.Answer.{Answer}
-use Rattle.lent.specs.Answers.{refusedBy}
+use Rattle.layout.specs.declared.answers.Answer.{Answer}
+use Rattle.layout.specs.Answers.{refusedBy}
 use Rattle.records.specs.Reading.{kindOf}
 use Rattle.records.specs.Requests.{requestOf}
 use Rattle.records.specs.Lines.{lineOf, written}

@@ -5,11 +5,14 @@ use mathlib.Core.List.{List}
 use native.Mathlib.Omega.{arith}
 use borrow.Author.Tests.{eqb-true, eqb-false, eq-eqb, ne-eqb}
 use lib.Dec.{eqb}
-use lib.ListN.{length, take, drop}
-use lib.Seq.{sets}
+use lib.ListN.{length, take, drop, length-drop}
+use lib.Seq.{sets, length-take-le}
 use Rattle.rules.proofs.Choice.{on}
 use Rattle.slices.proofs.Runs.{part-run}
-use Rattle.bench.specs.Steady.{left-length}
+
+-- how much was read and not yet taken
+pub left-length : (input : List ℕ) (at end : ℕ) → at ≤ end → end ≤ length input → length (take (end - at) (drop at input)) ≡ end - at
+left-length input at end h g = length-take-le (end - at) (drop at input) (simp length-drop (omega arith))
 
 -- `moved`: the input after the move; `after`: after the reading, which leaves the front as it is
 pub front-kept : (input : List ℕ) (at end : ℕ) (moved after : List ℕ) → at ≤ end → end ≤ length input

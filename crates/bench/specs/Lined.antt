@@ -5,7 +5,7 @@ use mathlib.Core.List.{List}
 use lib.Dec.{ltb}
 use lib.ListN.{length}
 use Rattle.rules.specs.Choice.{if_then_else_}
-use Rattle.lent.specs.declared.Answer.{Answer}
+use Rattle.layout.specs.declared.answers.Answer.{Answer}
 use Rattle.records.specs.Lines.{lineOf, written}
 
 -- behind the others, or at the front of a text of this length once they are written

@@ -7,8 +7,8 @@ use mathlib.Core.List.{List}
 use lib.Dec.{eqb}
 use lib.ListN.{take, drop}
 use Rattle.rules.specs.Refusals.{badRecord}
-use Rattle.lent.specs.declared.Answer.{Answer}
-use Rattle.lent.specs.Answers.{refusedBy}
+use Rattle.layout.specs.declared.answers.Answer.{Answer}
+use Rattle.layout.specs.Answers.{refusedBy}
 use Rattle.records.specs.Reading.{kindOf}
 use Rattle.records.specs.Requests.{requestOf}
 use Rattle.records.specs.Framing.{nextOf}

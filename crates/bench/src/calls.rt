@@ -1,57 +1,12 @@
 // The call that a record asks.
-use lent::Answer;
-use records::PortNumbers;
+use gufhrandi::perform::perform;
+use layout::answers::Answer;
 use records::Request;
-use records::VlanNumbers;
 ghost use mathlib.Core.Path.{_≡_};
 ghost use Prim.Native.Nat.{_≤_};
 ghost use lib.ListN.{length};
 ghost use Rattle.records.specs.Requests.{requestOf};
-ghost use Rattle.setting_calls.specs.Calls.{portCall};
-ghost use Rattle.setting_calls.specs.Vlans.{vlanCall};
-ghost use Rattle.bench.specs.Carried.{portOf, vlanOf, carriedOut};
-
-fn port_call(links: &mut [u32], port: u32, n: PortNumbers) -> Answer
-    ensures { λ r. ⌜ (r, now (links .exit)) ≡ portCall (now (links .entry)) port (portOf n) ⌝ }
-{
-    let o = n.operation;
-    setting_calls::port::set_port(
-        links,
-        port,
-        n.state,
-        n.assignment,
-        n.vid,
-        n.pcp,
-        n.dei,
-        n.flags,
-        o.kind,
-        o.tag_type,
-        o.vid_source,
-        o.pcp_source,
-        o.vid,
-        o.pcp,
-        o.dei,
-    )
-}
-
-fn vlan_call(links: &mut [u32], n: VlanNumbers) -> Answer
-    ensures { λ r. ⌜ (r, now (links .exit)) ≡ vlanCall (now (links .entry)) (vlanOf n) ⌝ }
-{
-    let o = n.operation;
-    setting_calls::vlan::set_vlan(
-        links,
-        n.vid,
-        n.members,
-        n.gid,
-        o.kind,
-        o.tag_type,
-        o.vid_source,
-        o.pcp_source,
-        o.vid,
-        o.pcp,
-        o.dei,
-    )
-}
+ghost use Rattle.bench.specs.Carried.{carriedOut};
 
 // `bytes` are a whole record without its length, `out` the take-out buffer.
 pub fn answer_to(
@@ -68,35 +23,14 @@ pub fn answer_to(
 {
     let request = records::request_of(bytes);
     match request {
-        Request::FrameIn(port) => frame_in::frame_in(
+        Request::Asked(call) => perform(
             cells,
             links,
             addresses,
-            port,
+            out,
             records::frame_of(bytes),
+            call,
         ),
-        Request::Take(port) => take_out::take_into(cells, links, port, out),
-        Request::Age => address_calls::age(addresses),
-        Request::Counter(port, number) => setting_calls::counter::counter(links, port, number),
-        Request::Port(port, numbers) => port_call(links, port, numbers),
-        Request::Vlan(numbers) => vlan_call(links, numbers),
-        Request::ClearVlan(vid) => setting_calls::vlan::clear_vlan(links, vid),
-        Request::Static { gid, port, address } => address_calls::set_static(
-            addresses,
-            gid,
-            port,
-            address,
-        ),
-        Request::Remove { gid, address } => address_calls::remove(addresses, gid, address),
-        Request::Map { pcp, queue } => setting_calls::queue::map(links, pcp, queue),
-        Request::QueueSwitch { port, queue, on } => setting_calls::queue::queue_switch(
-            links,
-            port,
-            queue,
-            on,
-        ),
-        Request::Drain(port) => take_out::drain(links, port),
-        Request::Bpdu(on) => setting_calls::bpdu::bpdu(links, on),
         Request::Bad => records::bad_record(),
     }
 }

@@ -1,5 +1,5 @@
 // The lines, gathered before they are written.
-use lent::Answer;
+use layout::answers::Answer;
 use libc::STDOUT_FILENO;
 ghost use mathlib.Core.Path.{_≡_};
 ghost use Prim.Native.Nat.{_+_, _≤_};

@@ -12,7 +12,7 @@ fn main() {
     let mut out = [0u8; 4091];
     let mut input = [0u8; 131072];
     let mut text = [0u8; 65536];
-    fresh_call::fresh(&cells, &mut links, &mut addresses);
+    gufhrandi::perform::begin(&cells, &mut links, &mut addresses);
     run::run(
         &mut cells,
         &mut links,

@@ -11,7 +11,7 @@ use borrow.Author.Tests.{eq-eqb, ne-eqb}
 use Rattle.layout.specs.Places.{linkWords, freeCountWord, firstFreeWord, nextWord, frameWord}
 use Rattle.layout.specs.Cells.{clamped}
 use Rattle.layout.proofs.Cells.{clamped-below}
-use Rattle.cells.specs.Chains.{nextIn, next, follow, walk, behind, count}
+use Rattle.cells.specs.Chains.{nextIn, next, follow, walk, count}
 use Rattle.cells.specs.Free.{freeCount, firstFree, wordOf, sizeOf, portsOf, freeCells, frameCells, lastCell, taken, givenBack}
 use Rattle.cells.specs.Sound.{waitingCells, Sound}
 use Rattle.cells.proofs.Counts.{one-le, count-append, count-head}

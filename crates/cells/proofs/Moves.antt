@@ -8,7 +8,6 @@ use lib.Dec.{leb, ltb}
 use borrow.Author.Tests.{leb-true, ltb-true, le-leb, lt-ltb}
 use Rattle.rules.specs.Choice.{if_then_else_}
 use Rattle.cells.specs.declared.free.Room.the-variants.{Enough, NoRoom, Damaged}
-use Rattle.cells.specs.Chains.{walk}
 use Rattle.cells.specs.Free.{freeCount, firstFree, wordOf, sizeOf, lastCell, roomFor, isFrame, canGiveBack}
 use Rattle.cells.proofs.Steps.{walk-in}
 

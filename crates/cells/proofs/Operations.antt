@@ -4,7 +4,7 @@ use mathlib.Core.Bool.{Bool, true, false, _&&_, and-eq-true-iff}
 use Prim.Native.Nat.{_≤_, _<_}
 use borrow.Author.Tests.{leb-true, ltb-true}
 use Rattle.rules.specs.Arguments.{operationOf}
-use Rattle.packed.specs.Operations.{operationIn, isExempt, isStoredWord}
+use Rattle.settings.specs.Operations.{operationIn, isExempt, isStoredWord}
 use Rattle.cells.specs.declared.stored.StoredHeader.{StoredHeader}
 use Rattle.cells.specs.Stored.{storedInRange, storedOperation}
 

@@ -5,7 +5,6 @@ use Prim.Native.Nat.{ℕ, zero, suc, _+_, _-_, _≤_, _<_}
 use native.Mathlib.Nat.{zero-add, suc-add}
 use native.Mathlib.Omega.{arith}
 use lib.ListN.{length}
-use Rattle.layout.specs.Cells.{clamped}
 use Rattle.layout.proofs.Cells.{clamped-below}
 use Rattle.cells.specs.Chains.{nextIn, next, follow, walk, behind, count}
 use Rattle.cells.proofs.Counts.{count-ne}
@@ -32,10 +31,6 @@ module _ (n : ℕ) where
       let same : walk n l k c ≡ nextIn l last =
       ap (λ (j : ℕ). walk n l j c) more ∙ walk-more l (k - 1) c ∙ clamped-below n (nextIn l last) (h last (walk-in n l (k - 1) c below)) in
       rw same
-
-  -- the same next words
-  pub next-same : (l m : List ℕ) (c : ℕ) → nextIn m c ≡ nextIn l c → next n m c ≡ next n l c
-  next-same l m c e = ap (clamped n) e
 
   pub follow-same : (l m : List ℕ) → ((c : ℕ) → nextIn m c ≡ nextIn l c) → (k c : ℕ) → follow n m k c ≡ follow n l k c
   follow-same l m h zero c = refl

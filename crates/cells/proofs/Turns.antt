@@ -7,7 +7,7 @@ use lib.ListN.{length, take, drop, length-take, length-drop}
 use lib.Seq.{sets, take-all, take-nil, drop-drop, drop-append-le, take-append-add, drop-append-add}
 use Rattle.rules.specs.Cells.{cells}
 use Rattle.slices.proofs.Runs.{sets-append}
-use Rattle.cells.specs.Chains.{nextIn, next, follow, walk, behind}
+use Rattle.cells.specs.Chains.{nextIn, next, follow, walk}
 use Rattle.cells.specs.Bytes.{cellsFor, storeCells, storeFrom, loadCells, frameIn, loadFrom}
 use Rattle.cells.proofs.Steps.{follow-cons, walk-cons, behind-cons}
 use Rattle.cells.proofs.Parts.{take-min, drop-min, take-append, take-take-min, drop-take, drop-part, length-part, short-part, next-drop, part-is}
@@ -191,3 +191,26 @@ module _ (n : ℕ) (l : List ℕ) (c : ℕ) where
       load-long h =
           let less : cellsFor (at + (long - from) - (at + (72 - from))) ≡ cells long - 1 = omega arith in
           rw less (load-first n l (cells long) c (omega arith) mem out fits from long at (72 - from) small some (omega arith))
+
+    -- the frame whole
+    pub whole-walk : 72 < long → walk n l (cellsFor (long - 72) - 1) (next n l c) ≡ walk n l (cells long - 1) c
+    whole-walk h =
+        let less : cellsFor (long - 72) - 1 ≡ cells long - 1 - 1 = omega arith in
+        rw less (sym (walk-cons n l (cells long - 1) c (omega arith)))
+
+    module _ (mem out : List ℕ) (fits : 80 * c + 80 ≤ length mem) where
+      pub whole-short : long ≤ 72
+          → sets out 0 (take (80 * c + 8 + long - (80 * c + 8)) (drop (80 * c + 8) mem)) ≡ loadFrom 0 out mem 0 long (follow n l (cells long) c)
+      whole-short h =
+          let count : 80 * c + 8 + 0 + (long - 0) - (80 * c + 8 + 0) ≡ 80 * c + 8 + long - (80 * c + 8) = omega arith in
+          let place : 80 * c + 8 + 0 ≡ 80 * c + 8 = omega arith in
+          rw (count, place) at (load-short mem out fits 0 0 (omega arith) (omega arith) h)
+
+      pub whole-long : 72 < long
+          → sets (sets out 0 (take 72 (drop (80 * c + 8) mem))) 72 (take (long - 72) (loadCells mem (follow n l (cellsFor (long - 72)) (next n l c))))
+          ≡ loadFrom 0 out mem 0 long (follow n l (cells long) c)
+      whole-long h =
+          let part : 80 * c + 8 + 0 + 72 - (80 * c + 8 + 0) ≡ 72 = omega arith in
+          let place : 80 * c + 8 + 0 ≡ 80 * c + 8 = omega arith in
+          let rest : 0 + (long - 0) - 72 ≡ long - 72 = omega arith in
+          rw (part, place, rest) at (load-long mem out fits 0 0 (omega arith) (omega arith) h)

@@ -5,7 +5,7 @@ use Prim.Native.Nat.{ℕ}
 use native.Mathlib.Omega.{arith}
 use Rattle.layout.specs.Same.{CellsSame}
 use Rattle.cells.specs.Chains.{follow, count}
-use Rattle.cells.specs.Free.{freeCount, firstFree, sizeOf, portsOf, freeCells, frameCells, roomFor, isFrame, canGiveBack}
+use Rattle.cells.specs.Free.{freeCount, firstFree, sizeOf, portsOf, freeCells, frameCells}
 use Rattle.cells.specs.Sound.{waitingCells, Sound}
 use Rattle.cells.proofs.Paths.{follow-same}
 use Rattle.cells.proofs.Words.{word-size, word-ports}
@@ -30,18 +30,6 @@ module _ {l m : List ℕ} (same : CellsSame l m) where
 
   pub same-waiting : (n c : ℕ) → waitingCells n m c ≡ waitingCells n l c
   same-waiting n c = waiting-same n l m c (same-ports c) (same-frame n c)
-
-  pub same-room : (n k : ℕ) → roomFor n k m ≡ roomFor n k l
-  unfolding roomFor
-  same-room n k = rw (same .freeCount, same .firstFree)
-
-  pub same-is-frame : (c : ℕ) → isFrame c m ≡ isFrame c l
-  unfolding isFrame
-  same-is-frame c = rw (same-size c)
-
-  pub same-can-give-back : (n c : ℕ) → canGiveBack n c m ≡ canGiveBack n c l
-  unfolding canGiveBack
-  same-can-give-back n c = rw (same .freeCount, same-size c, same .firstFree)
 
   pub same-sound : {n : ℕ} → Sound n l → Sound n m
   same-sound {n} sound =

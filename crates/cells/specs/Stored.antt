@@ -9,7 +9,7 @@ use Rattle.rules.specs.Cells.{shortest, longest}
 use Rattle.rules.specs.Operations.{Operation}
 use Rattle.rules.specs.Settings.{noOperation}
 use Rattle.rules.specs.Arguments.{operationOf}
-use Rattle.packed.specs.Operations.{operationIn, isStoredWord, isExempt}
+use Rattle.settings.specs.Operations.{operationIn, isStoredWord, isExempt}
 use Rattle.cells.specs.declared.stored.StoredHeader.{StoredHeader}
 
 -- two bytes of length, two of the default header, four of the operation, each low byte first

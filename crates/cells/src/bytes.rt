@@ -4,6 +4,7 @@ ghost use mathlib.Core.List.{_++_};
 ghost use Prim.Native.Nat.{_+_, _-_, _≤_, _<_};
 ghost use lib.ListN.{length, take, drop};
 ghost use lib.Seq.{sets};
+ghost use Rattle.rules.specs.Cells.{firstPart};
 ghost use Rattle.rules.specs.Cells as rules;
 ghost use Rattle.layout.specs.Places.{linkWords, cellBytes};
 ghost use Rattle.cells.specs.Chains.{follow, walk};
@@ -22,10 +23,10 @@ use layout::below;
 // What follows the first 72 bytes of a frame into the cells from c on. Answers the next word of the last of them.
 fn store_rest(cells: &mut [u8], links: &[u32], n: usize, c: usize, frame: &[u8]) -> u32
     requires { ⌜ (linkWords n ≤ length (now links)) × (cellBytes n ≤ length (now cells)) × (c < n)
-        × (72 < length (now frame)) ⌝ }
+        × (firstPart < length (now frame)) ⌝ }
     ensures { λ r. ⌜ (r, now (cells .exit))
-        ≡ storeFrom n (now (links .entry)) (cellsFor (length (now (frame .entry)) - 72)) c
-        (drop 72 (now (frame .entry))) (now (cells .entry)) ⌝ }
+        ≡ storeFrom n (now (links .entry)) (cellsFor (length (now (frame .entry)) - firstPart)) c
+        (drop firstPart (now (frame .entry))) (now (cells .entry)) ⌝ }
 {
     let mut at = c;
     let mut done = FIRST_PART;
@@ -60,7 +61,7 @@ pub fn store(
         slices::copy(cells, a + STORED_HEADER, frame);
         return after;
     }
-    slices::copy(cells, a + STORED_HEADER, &frame[..FIRST_PART]);
+    slices::copy_first_part(cells, a + STORED_HEADER, frame, 0);
     store_rest(cells, links, n, below(after, n), frame)
 }
 
@@ -94,6 +95,33 @@ fn load_rest(
     cell
 }
 
+// A frame of long bytes stands in the cells from first on: it goes to the front of out. Answers its last cell.
+pub fn load_whole(
+    cells: &[u8],
+    links: &[u32],
+    n: usize,
+    first: u32,
+    long: usize,
+    out: &mut [u8],
+) -> usize
+    requires { ⌜ (linkWords n ≤ length (now links)) × (cellBytes n ≤ length (now cells)) × (first < n) ⌝ }
+    requires { ⌜ long ≤ length (now out) ⌝ }
+    ensures { λ r. ⌜ (r ≡ walk n (now (links .entry)) (rules.cells long - 1) first) × (r < n) ⌝ }
+    ensures { λ _. ⌜ now (out .exit)
+        ≡ loadFrom 0 (now (out .entry)) (now (cells .entry)) 0 long
+        (follow n (now (links .entry)) (rules.cells long) first) ⌝ }
+{
+    let i = first as usize;
+    let a = CELL_SIZE * i + STORED_HEADER;
+    if long <= FIRST_PART {
+        let e = a + long;
+        slices::copy(out, 0, &cells[a..e]);
+        return i;
+    }
+    slices::copy_first_part(out, 0, cells, a);
+    load_rest(cells, links, n, next(links, n, i), out, FIRST_PART, long)
+}
+
 // A frame of long bytes stands in the cells from first on: what follows its first `from` bytes goes into out, from
 // place at on. Answers its last cell.
 pub fn load(
@@ -107,7 +135,7 @@ pub fn load(
     at: usize,
 ) -> usize
     requires { ⌜ (linkWords n ≤ length (now links)) × (cellBytes n ≤ length (now cells)) × (first < n) ⌝ }
-    requires { ⌜ (from ≤ 72) × (from ≤ long) × (at + (long - from) ≤ length (now out)) ⌝ }
+    requires { ⌜ (from ≤ firstPart) × (from ≤ long) × (at + (long - from) ≤ length (now out)) ⌝ }
     ensures { λ r. ⌜ (r ≡ walk n (now (links .entry)) (rules.cells long - 1) first) × (r < n) ⌝ }
     ensures { λ _. ⌜ now (out .exit)
         ≡ loadFrom from (now (out .entry)) (now (cells .entry)) at long

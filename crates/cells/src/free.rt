@@ -1,10 +1,10 @@
 // The free cells and the cells of frames: taking and giving back.
 ghost use mathlib.Core.Path.{_≡_};
 ghost use mathlib.Core.Bool.{true};
-ghost use Prim.Native.Nat.{_≤_, _<_};
+ghost use Prim.Native.Nat.{_*_, _≤_, _<_};
 ghost use lib.ListN.{length, set};
 ghost use Rattle.rules.specs.Cells.{mostCells};
-ghost use Rattle.layout.specs.Places.{linkWords, frameWord};
+ghost use Rattle.layout.specs.Places.{linkWords, frameWord, sizeUnit};
 ghost use Rattle.cells.specs.Chains.{behind};
 ghost use Rattle.cells.specs.Free as spec;
 use crate::chains::walk;
@@ -77,15 +77,14 @@ pub fn is_frame(links: &[u32], n: usize, c: u32) -> bool
     (SIZE_UNIT <= w) & (w < FRAME_END)
 }
 
-// Do the cells of that frame fit beside the free ones?
-pub fn can_give_back(links: &[u32], n: usize, c: u32) -> bool
-    requires { ⌜ (linkWords n ≤ length (now links)) × (c < n) ⌝ }
+// Do the cells of that frame, `size` in all, fit beside the free ones?
+pub fn can_give_back(links: &[u32], n: usize, c: u32, size: u32) -> bool
+    requires { ⌜ (linkWords n ≤ length (now links)) × (c < n) × (size ≡ spec.sizeOf (now links) c) ⌝ }
     ensures { λ r. ⌜ r ≡ spec.canGiveBack n c (now (links .entry)) ⌝ }
 {
-    let size = (word(links, n, c) / SIZE_UNIT) as usize;
     let free = links[FREE_COUNT] as usize;
     let first = links[FIRST_FREE] as usize;
-    (free + size <= n) & (first < n)
+    (free + (size as usize) <= n) & (first < n)
 }
 
 // The last cell of that frame.
@@ -97,21 +96,20 @@ pub fn last(links: &[u32], n: usize, c: u32) -> usize
     walk(links, n, c as usize, size - 1)
 }
 
-// The cells of that frame, whose last is `last`, become the first free ones.
-pub fn give_back(links: &mut [u32], n: usize, c: u32, last: usize)
+// The cells of that frame, whose last is `last`, become the first free ones. `left` is its word without ports.
+pub fn give_back(links: &mut [u32], n: usize, c: u32, last: usize, left: u32)
     requires { ⌜ (linkWords n ≤ length (now links)) × (n ≤ mostCells) × (c < n)
         × (spec.canGiveBack n c (now links) ≡ true) ⌝ }
-    requires { ⌜ last ≡ spec.lastCell n (now links) c ⌝ }
+    requires { ⌜ (last ≡ spec.lastCell n (now links) c) × (left ≡ sizeUnit * spec.sizeOf (now links) c) ⌝ }
     ensures { λ _. ⌜ now (links .exit) ≡ spec.givenBack n c (now (links .entry)) ⌝ }
 {
-    let size = word(links, n, c) / SIZE_UNIT;
     let free = links[FREE_COUNT];
     let first = links[FIRST_FREE];
     let i = c as usize;
     links[NEXT + CELL_STRIDE * last] = first;
-    links[FREE_COUNT] = free + size;
+    links[FREE_COUNT] = free + left / SIZE_UNIT;
     links[FIRST_FREE] = c;
-    links[FRAME + CELL_STRIDE * i] = SIZE_UNIT * size;
+    links[FRAME + CELL_STRIDE * i] = left;
 }
 
 // The frame word.

@@ -7,7 +7,9 @@ ghost use Rattle.layout.specs.Places.{cellBytes};
 ghost use Rattle.cells.specs.Bytes.{headerIn};
 ghost use Rattle.cells.specs.Stored.{storedBytes, storedOf, storedInRange};
 use layout::CELL_SIZE;
-use packed::operation::is_stored_word;
+use layout::numbers::LONGEST;
+use layout::numbers::SHORTEST;
+use settings::operation::is_stored_word;
 
 // Length, the arrival port's default header as its word has it (from DEI on), and the word of the VLAN's operation.
 // The first word past the range of operations stands for a frame on which none acts.
@@ -57,6 +59,10 @@ pub fn read_header(cells: &[u8], n: usize, c: u32) -> StoredHeader
     }
 }
 
+const SHORTEST_LENGTH: u16 = SHORTEST as u16;
+
+const LONGEST_LENGTH: u16 = LONGEST as u16;
+
 // VID 1 to 4,094 stands on top of the default header: 16, and 4095 * 16.
 const DEFAULT_START: u16 = 16;
 
@@ -65,8 +71,8 @@ const DEFAULT_END: u16 = 65520;
 pub fn in_range(h: StoredHeader) -> bool
     ensures { λ r. ⌜ r ≡ storedInRange h ⌝ }
 {
-    (60 <= h.length)
-        & (h.length <= 4083)
+    (SHORTEST_LENGTH <= h.length)
+        & (h.length <= LONGEST_LENGTH)
         & (DEFAULT_START <= h.default)
         & (h.default < DEFAULT_END)
         & is_stored_word(h.operation)

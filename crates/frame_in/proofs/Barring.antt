@@ -21,21 +21,22 @@ use Rattle.rules.proofs.Lines.{first-append-none, first-append-some}
 use Rattle.rules.proofs.Parts.{reason-entering, entering-stops}
 use Rattle.machine.specs.CountTheorems.{outcomeNumber}
 use Rattle.layout.specs.Places.{vlanWord, vlanOperationWord}
-use Rattle.packed.specs.Operations.{isOperationWord, operationIn, operationIs}
-use Rattle.packed.specs.Ports.{isVidWord, vlanIn, vlanIs}
-use Rattle.packed.specs.declared.operation.OperationSettings.{OperationSettings}
-use Rattle.packed.specs.declared.vlan.VlanSettings.{VlanSettings}
-use Rattle.packed.proofs.RangeLaws.{vlan-range}
-use Rattle.packed.proofs.SettingLaws.{vlan-words-good}
+use Rattle.settings.specs.Operations.{isOperationWord}
+use Rattle.settings.specs.Ports.{isVidWord, vlanIn}
+use Rattle.settings.specs.Settings.{vlanOfWords}
+use Rattle.settings.proofs.RangeLaws.{vlan-range}
+use Rattle.settings.proofs.SettingLaws.{vlan-words-good}
 use Rattle.settings.specs.Records.{vlanAt}
 use Rattle.settings.specs.Table.{vlanCount, entryAt, vidAt, findFrom, foundVlan}
 use Rattle.settings.specs.SettingsOf.{vlansOf, settingsOf}
 use Rattle.settings.proofs.FindLaws.{found-there, found-nowhere}
 use Rattle.settings.specs.declared.table.Found.the-variants.{At, Nowhere, Damaged}
-use Rattle.frame_rules.specs.declared.arrival.Arrival.{Arrival}
-use Rattle.frame_rules.specs.Plans.{damagedPlan, dropPlan}
-use Rattle.frame_rules.specs.Stored.{operationFound, operationFor}
-use Rattle.frame_rules.specs.Arrivals.{portRules, absentReason}
+use Rattle.arrival.specs.declared.entering.Arrival.{Arrival}
+use Rattle.arrival.specs.Plans.{damagedPlan, dropPlan}
+use Rattle.arrival.specs.Stored.{operationFound, operationFor}
+use Rattle.arrival.specs.Arrivals.{portRules, absentReason}
+use Rattle.settings.specs.declared.vlan.Entry.{Entry}
+use Rattle.settings.specs.Entries.{entryIs}
 use Rattle.frame_in.specs.Met.{unlessDropped, metMember, metEntry, metTable, metEntering}
 use Rattle.frame_in.specs.Call.{factsIn}
 use Rattle.frame_in.specs.Judged.{Judged, Way}
@@ -207,10 +208,10 @@ module _ (links addresses frame : List ℕ) (n port : ℕ) where
     unfolding metEntry
     entry-damaged b = damaged-judged links addresses frame n port (i .way .lent) (i .way .meets-is ∙ rw (ap isOperationWord (sym word-is) ∙ b))
 
-    module _ (good : isOperationWord word ≡ true) (own : ℕ) (own-is : own ≡ getD links (vlanWord e) 0) (operation : OperationSettings)
-        (operation-is : operationIs operation ≡ operationIn word) (vlan : VlanSettings) (read : vlanIs vlan ≡ vlanIn (operationIs operation) own) where
-      vlan-read : vlanIs vlan ≡ vlanAt links e
-      vlan-read = read ∙ rw (operation-is, word-is, own-is)
+    module _ (good : isOperationWord word ≡ true) (own : ℕ) (own-is : own ≡ getD links (vlanWord e) 0) (vlan : Entry)
+        (read : (entryIs vlan ≡ vlanOfWords own word) × (vlan .operation ≡ word)) where
+      vlan-read : entryIs vlan ≡ vlanAt links e
+      vlan-read = read .0 ∙ rw (word-is, own-is)
 
       entry-good : vlanInRange (vlanAt links e) ≡ true
       entry-good = vlan-words-good (entryAt links e) (getD links (vlanOperationWord e) 0) (i .in-range) (ap isOperationWord (sym word-is) ∙ good)
@@ -241,7 +242,7 @@ module _ (links addresses frame : List ℕ) (n port : ℕ) where
       unfolding reasonNumber
       nine q = rule-judged (i .way) (i .ordinary) (entry-meets-by false q) noMember 9 refl (member-rule false q)
 
-      pub as-member : bit (vlan .members) port ≡ true → Member links addresses frame n port arrival vlan word
+      pub as-member : bit (vlan .members) port ≡ true → Member links addresses frame n port arrival vlan
       as-member q =
           record {
             way = way-on links addresses frame n port (i .way) (entry-meets-by true q ∙ ap (metMember links addresses port frame) (sym vlan-read));
@@ -250,6 +251,6 @@ module _ (links addresses frame : List ℕ) (n port : ℕ) where
             arrival-is = i .arrival-is;
             not-barred = i .arrival-is .barred ∙ ap outcomeNumber (i .not-barred);
             vlan-is = i .vlan-is ∙ ap vlanEntry (sym vlan-read);
-            operation-is = word-is ∙ sym (i .operation-is);
+            operation-is = read .1 ∙ word-is ∙ sym (i .operation-is);
             in-range = ap vlanInRange vlan-read ∙ entry-good;
           }

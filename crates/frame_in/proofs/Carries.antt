@@ -1,20 +1,31 @@
 -- The writes one after another: what each makes of memory. Assumes nothing.
 use Prim.Native.Nat.{ℕ}
-use mathlib.Core.Path.{_≡_, ap, _∙_}
-use mathlib.Core.Bool.{Bool, true, false, not}
+use mathlib.Core.Path.{_≡_, refl, ap, _∙_}
+use mathlib.Core.Bool.{Bool, true, false, _&&_, not}
 use mathlib.Core.List.{List}
-use borrow.Author.Tests.{eq-eqb, ne-eqb}
+use borrow.Author.Tests.{eqb-true}
+use lib.Dec.{eqb}
+use Rattle.rules.proofs.Choice.{and-left, and-right}
+use Rattle.rules.specs.Arguments.{bit}
+use Rattle.settings.proofs.BitLaws.{bit-less, no-bit-zero}
+use Rattle.frame_in.proofs.Each.{each-none}
 use Rattle.rules.specs.Counters.{counterNumber}
-use Rattle.words.specs.Counters.{bumped}
+use Rattle.layout.specs.Counters.{bumped}
 use Rattle.addresses.specs.Writes.{markedBy, learnedBy}
-use Rattle.frame_rules.specs.declared.plan.Lesson.{Lesson}
-use Rattle.frame_rules.specs.declared.plan.Masks.{Masks}
-use Rattle.frame_rules.specs.declared.plan.Plan.{Plan}
-use Rattle.frame_rules.specs.Candidates.{portsIn}
-use Rattle.packed.specs.Bits.{less}
-use Rattle.frame_in.specs.Carried.{eachPort, bumpAt, countedFalls, countIf, countedOutcome, countedBy, learnedLesson, lessonBy}
+use Rattle.arrival.specs.declared.plan.Lesson.{Lesson}
+use Rattle.arrival.specs.declared.plan.Masks.{Masks}
+use Rattle.arrival.specs.Candidates.{portsIn}
+use Rattle.settings.specs.Bits.{less}
+use Rattle.frame_in.specs.Carried.{eachPort, bumpAt, countedFalls, countIf, countedWith, learnedLesson, lessonBy}
 
 -- ---- counters
+
+less-itself : (a : ℕ) → less a a ≡ 0
+less-itself a = no-bit-zero (less a a) (λ i. bit-less a a i ∙ never (bit a i))
+  where
+    never : (b : Bool) → (b && not b) ≡ false
+    never true = refl
+    never false = refl
 
 module _ (unlearned : Bool) (port : ℕ) (l : List ℕ) where
   pub count-unlearned : unlearned ≡ true → bumped port 15 l ≡ countIf unlearned port l
@@ -30,20 +41,20 @@ pub falls-counted : (m : Masks) (fell off : ℕ) (a : List ℕ) {b c : List ℕ}
 unfolding countedFalls counterNumber
 falls-counted m fell off a p q r s = s ∙ rw (r, p, q)
 
-module _ (port reason left : ℕ) (a : List ℕ) {b : List ℕ} where
-  pub outcome-queued : {c : List ℕ} → reason ≡ 0 → b ≡ bumped port 14 a → c ≡ eachPort (bumpAt 16) (portsIn left) b → c ≡ countedOutcome port reason left a
-  unfolding countedOutcome counterNumber
-  outcome-queued z e f = rw (eq-eqb reason 0 z) (f ∙ ap (eachPort (bumpAt 16) (portsIn left)) e)
+-- no candidate falls out
+pub falls-none : (m : Masks) (a : List ℕ) → (eqb (m .candidates) (m .passing) && eqb (m .passing) (m .left)) ≡ true → a ≡ countedFalls m a
+unfolding countedFalls counterNumber
+falls-none m a e =
+    let p = eqb-true _ _ (and-left (eqb (m .candidates) (m .passing)) (eqb (m .passing) (m .left)) e) in
+    let q = eqb-true _ _ (and-right (eqb (m .candidates) (m .passing)) (eqb (m .passing) (m .left)) e) in
+    each-none (bumpAt 17) (less (m .candidates) (m .passing)) a (ap (λ (x : ℕ). less x (m .passing)) p ∙ less-itself (m .passing))
+    ∙ each-none (bumpAt 18) (less (m .passing) (m .left)) _ (ap (λ (x : ℕ). less x (m .left)) q ∙ less-itself (m .left))
 
-  pub outcome-dropped : (reason ≡ 0 → ⊥) → b ≡ bumped port reason a → b ≡ countedOutcome port reason left a
-  unfolding countedOutcome
-  outcome-dropped z e = rw (ne-eqb reason 0 z) e
-
-pub counted-all : (port : ℕ) (unlearned : Bool) (plan : Plan) (a : List ℕ) {b c d e : List ℕ} → b ≡ bumped port 0 a → c ≡ countIf unlearned port b
-    → d ≡ countedFalls (plan .masks) c → e ≡ countedOutcome port (plan .reason) (plan .left) d → e ≡ countedBy port unlearned plan a
-unfolding countedBy counterNumber
-counted-all port unlearned plan a p q r s =
-    s ∙ ap (countedOutcome port (plan .reason) (plan .left)) (r ∙ ap (countedFalls (plan .masks)) (q ∙ ap (countIf unlearned port) p))
+pub counted-with : (outcome port : ℕ) (unlearned : Bool) (m : Masks) (a : List ℕ) {b c d e : List ℕ} → b ≡ bumped port 0 a → c ≡ countIf unlearned port b
+    → d ≡ countedFalls m c → e ≡ bumped port outcome d → e ≡ countedWith outcome port unlearned m a
+unfolding countedWith counterNumber
+counted-with outcome port unlearned m a p q r s =
+    s ∙ ap (bumped port outcome) (r ∙ ap (countedFalls m) (q ∙ ap (countIf unlearned port) p))
 
 -- ---- addresses
 

@@ -16,11 +16,11 @@ use Rattle.rules.specs.Arguments.{bit}
 use Rattle.rules.specs.Numbers.{allPorts}
 use Rattle.machine.specs.Events.{Event, counts}
 use Rattle.machine.specs.FrameIn.{mask, testEvent, testEvents, candidateEvents, lessonEvents, joinEvents, outcomeEvents, frameInEvents}
-use Rattle.frame_rules.specs.declared.plan.Masks.{Masks}
-use Rattle.frame_rules.specs.Candidates.{isStateOut, isQueueOut, MasksAre}
-use Rattle.packed.specs.Bits.{less}
+use Rattle.arrival.specs.declared.plan.Masks.{Masks}
+use Rattle.arrival.specs.Candidates.{isStateOut, isQueueOut, MasksAre}
+use Rattle.settings.specs.Bits.{less}
 use Rattle.frame_in.specs.Carried.{eachPort, bumpAt, countedFalls, countIf, pushAt}
-use Rattle.words.specs.Counters.{bumped}
+use Rattle.layout.specs.Counters.{bumped}
 use Rattle.frame_in.specs.Counting.{counted}
 use Rattle.frame_in.specs.Call.{pushedAt}
 use Rattle.frame_in.proofs.Each.{bothAt, falls-together, mask-of-ports}

@@ -14,8 +14,8 @@ use Rattle.rules.specs.Addresses.{run}
 use Rattle.rules.specs.Arguments.{bit}
 use Rattle.machine.specs.FrameIn.{mask}
 use Rattle.layout.specs.Places.{counterWord}
-use Rattle.packed.proofs.BitLaws.{bits-zero}
-use Rattle.frame_rules.specs.Candidates.{portsIn}
+use Rattle.settings.proofs.BitLaws.{bits-zero}
+use Rattle.arrival.specs.Candidates.{portsIn}
 use Rattle.frame_in.specs.Carried.{eachPort, ifSet, bumpAt}
 
 -- ---- one turn for each port
@@ -60,7 +60,7 @@ module _ {A : Type 0} (f : ℕ → A → A) (m : ℕ) where
 -- ---- two runs in one
 
 module _ {A : Type 0} (f g : ℕ → A → A) (apart : (p q : ℕ) (m : A) → g q (f p m) ≡ f p (g q m)) where
-  later : (q : ℕ) (ps : List ℕ) (m : A) → g q (eachPort f ps m) ≡ eachPort f ps (g q m)
+  pub later : (q : ℕ) (ps : List ℕ) (m : A) → g q (eachPort f ps m) ≡ eachPort f ps (g q m)
   unfolding eachPort
   later q [] m = refl
   later q (p ∷ ps) m = later q ps (f p m) ∙ ap (eachPort f ps) (apart p q m)
@@ -86,7 +86,7 @@ module _ {A : Type 0} (f g : ℕ → A → A) (a b : ℕ → Bool) (apart : (p q
   together (p ∷ ps) m = step p ps m (a p) (b p) ∙ together ps (bothAt f g a b p m)
 
 -- two counters of different number
-bump-apart : (n k : ℕ) → n < 32 → k < 32 → (n ≡ k → ⊥) → (p q : ℕ) (l : List ℕ) → bumpAt k q (bumpAt n p l) ≡ bumpAt n p (bumpAt k q l)
+pub bump-apart : (n k : ℕ) → n < 32 → k < 32 → (n ≡ k → ⊥) → (p q : ℕ) (l : List ℕ) → bumpAt k q (bumpAt n p l) ≡ bumpAt n p (bumpAt k q l)
 bump-apart n k h i o p q l =
     let x = (getD l (counterWord p n) 0 + 1) % 2 ^ 32 in
     let y = (getD l (counterWord q k) 0 + 1) % 2 ^ 32 in

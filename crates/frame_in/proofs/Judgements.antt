@@ -25,15 +25,15 @@ use Rattle.addresses.specs.Search.{placeOf}
 use Rattle.cells.specs.Free.{freeCount, roomFor}
 use Rattle.cells.specs.declared.free.Room.{Room}
 use Rattle.cells.specs.declared.free.Room.the-variants.{Enough, NoRoom, Damaged}
-use Rattle.frame_rules.specs.declared.plan.Lesson.{Lesson}
-use Rattle.frame_rules.specs.declared.plan.Offer.{Offer}
-use Rattle.frame_rules.specs.declared.plan.Plan.{Plan}
-use Rattle.frame_rules.specs.Plans.{noLesson, noMasks, damagedPlan, lessonPlan, dropPlan, offerPlan}
-use Rattle.frame_rules.specs.Stored.{operationFor, storedHeader}
-use Rattle.frame_rules.specs.Candidates.{MasksAre}
-use Rattle.packed.specs.Bits.{less}
+use Rattle.arrival.specs.declared.plan.Lesson.{Lesson}
+use Rattle.arrival.specs.declared.plan.Offer.{Offer}
+use Rattle.arrival.specs.declared.plan.Plan.{Plan}
+use Rattle.arrival.specs.Plans.{noLesson, noMasks, damagedPlan, lessonPlan, dropPlan, offerPlan}
+use Rattle.arrival.specs.Stored.{operationFor, storedHeader}
+use Rattle.arrival.specs.Candidates.{MasksAre}
+use Rattle.settings.specs.Bits.{less}
 use Rattle.queues.specs.Lists.{allWaitingInRange}
-use Rattle.frame_rules.specs.Room.{roomMet, metRoom, planOffered}
+use Rattle.arrival.specs.Room.{roomMet, metRoom, planOffered}
 use Rattle.frame_in.specs.Carried.{bumpAt, countedFalls, lessonBy, Ready}
 use Rattle.frame_in.specs.Met.{met}
 use Rattle.frame_in.specs.Call.{factsIn, learnedIn}
@@ -42,7 +42,7 @@ use Rattle.frame_in.specs.Judged.{Lent, Judged}
 use Rattle.frame_in.proofs.Facts.{facts-room}
 use Rattle.frame_in.proofs.Each.{each-none}
 use Rattle.frame_in.proofs.Counts.{tests-counted, left-is, none-is}
-use Rattle.frame_rules.proofs.RoomOutcomes.{none-left, room-damaged, room-none, room-enough, queues-damaged}
+use Rattle.arrival.proofs.RoomOutcomes.{none-left, room-damaged, room-none, room-enough, queues-damaged}
 use Rattle.frame_in.proofs.Joins.{enough, no-room}
 use Rattle.frame_in.proofs.Outcomes.{not-zero, dropped-carried, queued-carried}
 
@@ -213,7 +213,7 @@ module _ (links addresses frame : List ℕ) (n port : ℕ) (lent : Lent links ad
             right = λ _. record {
               ready = queued-ready h r;
               carried = queued-carried links addresses frame n port (offerPlan 0 lesson o (o .masks .left)) offer-tests (taught .lesson-is)
-                  (outcome-queued e (enough n (cells (length frame)) links h .few)) refl masks-are refl queue-is header-is (lent .count);
+                  (outcome-queued e (enough n (cells (length frame)) links h .few)) refl masks-are refl queue-is queue-small header-is (lent .count);
             };
           }
 

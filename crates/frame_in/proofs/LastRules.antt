@@ -17,12 +17,12 @@ use Rattle.rules.specs.Outcomes.{countsTests}
 use Rattle.rules.proofs.Choice.{or-left, or-right}
 use Rattle.rules.proofs.Parts.{reason-choosing, reason-queueing, choosing-stops, counts-then}
 use Rattle.machine.specs.FrameIn.{mask}
-use Rattle.frame_rules.specs.declared.plan.Lesson.{Lesson}
-use Rattle.frame_rules.specs.declared.plan.Masks.{Masks}
-use Rattle.frame_rules.specs.declared.plan.Offer.{Offer}
-use Rattle.frame_rules.specs.Plans.{lessonPlan}
-use Rattle.frame_rules.specs.Candidates.{MasksAre}
-use Rattle.frame_rules.specs.Room.{metRoom, planOffered}
+use Rattle.arrival.specs.declared.plan.Lesson.{Lesson}
+use Rattle.arrival.specs.declared.plan.Masks.{Masks}
+use Rattle.arrival.specs.declared.plan.Offer.{Offer}
+use Rattle.arrival.specs.Plans.{lessonPlan}
+use Rattle.arrival.specs.Candidates.{MasksAre}
+use Rattle.arrival.specs.Room.{metRoom, planOffered}
 use Rattle.frame_in.specs.Met.{metTests, met}
 use Rattle.frame_in.specs.Call.{factsIn}
 use Rattle.frame_in.specs.Judged.{Judged}

@@ -22,10 +22,10 @@ use Rattle.addresses.specs.declared.LookUp.the-variants.{Found, Full}
 use Rattle.addresses.proofs.LookUps.{look-up-finds, place-inside, port-inside}
 use Rattle.addresses.proofs.Steps.{step-theorems}
 use Rattle.addresses.proofs.Frames.{frame-theorems}
-use Rattle.frame_rules.specs.declared.plan.Lesson.{Lesson}
-use Rattle.packed.proofs.BitLaws.{bit-power}
-use Rattle.frame_rules.specs.Candidates.{destinationLookUp, chosenMask, ChosenFits}
-use Rattle.frame_rules.proofs.Masks.{every-bit}
+use Rattle.arrival.specs.declared.plan.Lesson.{Lesson}
+use Rattle.settings.proofs.BitLaws.{bit-power}
+use Rattle.arrival.specs.Candidates.{destinationLookUp, chosenMask, ChosenFits}
+use Rattle.arrival.proofs.Masks.{every-bit}
 use Rattle.frame_in.specs.Carried.{learnedLesson, lessonBy}
 use Rattle.frame_in.specs.Call.{factsIn, lessonIn}
 use Rattle.frame_in.proofs.Facts.{facts-port, facts-source, facts-look-up, facts-chosen}

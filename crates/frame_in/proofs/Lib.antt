@@ -1,5 +1,7 @@
 pub mod Facts
 pub mod Each
+pub mod Queued
+pub mod Aside
 pub mod Counts
 pub mod Carries
 pub mod Outcomes
@@ -14,4 +16,3 @@ pub mod Refused
 pub mod Undamaged
 pub mod Tables
 pub mod Theorems
-pub mod TestNumbers

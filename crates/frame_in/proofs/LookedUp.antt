@@ -4,39 +4,44 @@ use mathlib.Core.Path.{_≡_, refl, sym, ap, _∙_}
 use mathlib.Core.Bool.{Bool, true, false, not}
 use mathlib.Core.List.{List}
 use native.Mathlib.Omega.{arith}
-use lib.ListN.{length}
+use lib.ListN.{length, getD}
 use Rattle.rules.specs.Tags.{tagsOf, destination, source, addressAt}
-use Rattle.rules.specs.Settings.{Vlan, isLearning, queuePcp}
+use Rattle.rules.specs.Settings.{Port, Vlan, isLearning, queuePcp}
 use Rattle.rules.specs.Addresses.{key}
-use Rattle.rules.specs.Arguments.{bit, vlanEntry}
+use Rattle.rules.specs.Arguments.{bit, portOf, vlanEntry}
 use Rattle.rules.specs.Facts.{Facts}
 use Rattle.rules.specs.Outcomes.{frameOf, learns, isNotLearned}
 use Rattle.rules.proofs.Parts.{learns-exactly}
-use Rattle.packed.specs.Ports.{vlanIs, defaultNumber}
-use Rattle.packed.specs.Switches.{isSwitchesWord}
-use Rattle.packed.specs.declared.vlan.VlanSettings.{VlanSettings}
-use Rattle.packed.proofs.MapLaws.{queue-small as map-queue-small}
-use Rattle.packed.proofs.RangeLaws.{vlan-range}
-use Rattle.settings.specs.Records.{statesAt}
+use Rattle.layout.specs.Places.{portWord, portOperationWord}
+use Rattle.settings.specs.Operations.{operationIn}
+use Rattle.settings.specs.Ports.{defaultNumber}
+use Rattle.settings.specs.Switches.{isSwitchesWord}
+use Rattle.settings.proofs.MapLaws.{queue-small as map-queue-small}
+use Rattle.settings.proofs.RangeLaws.{vlan-range}
+use Rattle.settings.specs.Records.{statesAt, portAt}
 use Rattle.settings.specs.SettingsOf.{mapAt, switchesAt, settingsOf}
 use Rattle.addresses.specs.Numbers.{tableOf}
 use Rattle.addresses.specs.Search.{lookUp, damaged}
 use Rattle.addresses.specs.declared.LookUp.{LookUp}
 use Rattle.addresses.proofs.LookUps.{place-inside}
-use Rattle.frame_rules.specs.declared.arrival.Arrival.{Arrival}
-use Rattle.frame_rules.specs.declared.plan.Lesson.{Lesson}
-use Rattle.frame_rules.specs.declared.plan.Masks.{Masks}
-use Rattle.frame_rules.specs.declared.plan.Offer.{Offer}
-use Rattle.frame_rules.specs.Plans.{damagedPlan}
-use Rattle.frame_rules.specs.Stored.{operationFor, storedHeader}
-use Rattle.frame_rules.specs.Candidates.{destinationLookUp, chosenMask, candidatesIn, masksOf, MasksAre}
+use Rattle.arrival.specs.declared.entering.Arrival.{Arrival}
+use Rattle.arrival.specs.declared.plan.Lesson.{Lesson}
+use Rattle.arrival.specs.declared.plan.Masks.{Masks}
+use Rattle.arrival.specs.declared.plan.Offer.{Offer}
+use Rattle.arrival.specs.Plans.{damagedPlan}
+use Rattle.arrival.specs.Stored.{operationFor, storedHeader}
+use Rattle.arrival.specs.Candidates.{destinationLookUp, chosenMask, candidatesIn, masksOf, MasksAre}
+use Rattle.settings.specs.declared.vlan.Entry.{Entry}
+use Rattle.settings.specs.Entries.{entryIs}
 use Rattle.frame_in.specs.Carried.{lessonBy}
 use Rattle.frame_in.specs.Met.{masksIn, metTests, metMember}
 use Rattle.frame_in.specs.Call.{factsIn, lessonIn, learnedIn}
 use Rattle.frame_in.specs.Judged.{Judged}
 use Rattle.frame_in.specs.Stages.{Member, Tested}
-use Rattle.packed.proofs.PortLaws.{number-back}
-use Rattle.frame_rules.proofs.LinkWords.{queue-is, masks-in}
+use Rattle.settings.proofs.PortLaws.{number-back}
+use Rattle.arrival.specs.Arrivals.{barredBy}
+use Rattle.arrival.proofs.Arrivals.{not-open}
+use Rattle.arrival.proofs.LinkWords.{port-is, queue-is, masks-in}
 use Rattle.frame_in.proofs.Facts.{facts-bytes, facts-default, facts-gid, facts-state, ordinary-queue, ordinary-test}
 use Rattle.frame_in.proofs.Lessons.{chosen-is, destination-place, placed-is, lesson-in}
 use Rattle.frame_in.proofs.Judgements.{damaged-judged}
@@ -47,7 +52,7 @@ twice true = refl
 twice false = refl
 
 module _ (links addresses frame : List ℕ) (n port : ℕ) where
-  module _ (arrival : Arrival) (vlan : VlanSettings) (operation : ℕ) (m : Member links addresses frame n port arrival vlan operation) where
+  module _ (arrival : Arrival) (vlan : Entry) (m : Member links addresses frame n port arrival vlan) where
     abbrev f : Facts
     f = factsIn links addresses port frame
 
@@ -60,18 +65,26 @@ module _ (links addresses frame : List ℕ) (n port : ℕ) where
     pub queue-small : arrival .queue ≤ 3
     queue-small = rw (m .arrival-is .queue) (map-queue-small (mapAt links) (queuePcp (settingsOf links .port port .default) (tagsOf frame)))
 
-    learning-at : arrival .learning ≡ isLearning (f .state)
-    learning-at = m .arrival-is .learning (m .not-barred) ∙ ap isLearning (sym (facts-state links addresses frame port))
+    here : settingsOf links .port port ≡ portOf (portAt links port)
+    here = port-is links port (omega (arith, m .way .lent .port-there))
+
+    -- no reason of 4 to 6 holds
+    learning-at : not (bit (statesAt links) port) ≡ isLearning (f .state)
+    learning-at =
+        not-open (getD links (portWord port) 0) (statesAt links) 0 port (operationIn (getD links (portOperationWord port) 0)) (length (tagsOf frame))
+        (ap (λ (p : Port). barredBy p (length (tagsOf frame))) (sym here) ∙ sym (m .arrival-is .barred) ∙ m .not-barred)
+        ∙ ap (λ (p : Port). isLearning (p .state)) (sym here)
+        ∙ ap isLearning (sym (facts-state links addresses frame port))
 
     gid-is : f .gid ≡ vlan .gid
     unfolding vlanEntry
     gid-is = facts-gid links addresses frame port ∙ ap (λ (v : Vlan). v .gid) (m .vlan-is)
 
     pub gid-small : vlan .gid ≤ 15
-    gid-small = vlan-range (vlanIs vlan) (m .in-range) .gid
+    gid-small = vlan-range (entryIs vlan) (m .in-range) .gid
 
     members-small : vlan .members < 32
-    members-small = let m = vlan-range (vlanIs vlan) (m .in-range) .members in omega arith
+    members-small = let m = vlan-range (entryIs vlan) (m .in-range) .members in omega arith
 
     members-are : (r : ℕ) → f .vlan .member r ≡ bit (vlan .members) r
     unfolding vlanEntry
@@ -117,11 +130,11 @@ module _ (links addresses frame : List ℕ) (n port : ℕ) where
               abbrev chosen : ℕ
               chosen = chosenMask (destinationLookUp addresses (vlan .gid) (destination frame))
 
-              t-at : t ≡ masksIn links addresses port frame (vlanIs vlan)
+              t-at : t ≡ masksIn links addresses port frame (entryIs vlan)
               unfolding masksIn
               t-at = t-is ∙ rw (k′-is, c-is, d-at, states-are, switches-are, queue-for)
 
-              tests-meet : metMember links addresses port frame (vlanIs vlan) ≡ metTests links addresses port frame t
+              tests-meet : metMember links addresses port frame (entryIs vlan) ≡ metTests links addresses port frame t
               unfolding metMember
               tests-meet =
                   rw (d-damaged false whole, g-damaged false sound, ap isSwitchesWord (sym switches-are) ∙ good)
@@ -139,7 +152,7 @@ module _ (links addresses frame : List ℕ) (n port : ℕ) where
 
               abbrev offer-made : Offer
               offer-made =
-                  record { masks = t; queue = arrival .queue; header = record { length = length frame; default = arrival .default; operation = operation } }
+                  record { masks = t; queue = arrival .queue; header = record { length = length frame; default = arrival .default; operation = vlan .operation } }
 
               default-number : arrival .default ≡ defaultNumber (f .default)
               default-number =
@@ -167,13 +180,13 @@ module _ (links addresses frame : List ℕ) (n port : ℕ) where
                   lesson-in lesson-made port addresses (vlan .gid) frame refl g-at k-at d-at
                   ∙ rw (not-learned, sym learned-made)
 
-              pub as-tested : k < 2 ^ 52 → Tested links addresses frame n port (arrival .learning) lesson-made offer-made
-              as-tested small =
+              pub as-tested : k < 2 ^ 52 → (o : Bool) → o ≡ bit states port → Tested links addresses frame n port (not o) lesson-made offer-made
+              as-tested small o o-is =
                   record {
                     way = way-on links addresses frame n port (m .way) tests-meet;
                     ordinary = m .ordinary;
                     entered = m .entered;
-                    learning-is = learning-at;
+                    learning-is = ap not (o-is ∙ ap (λ (w : ℕ). bit w port) states-are) ∙ learning-at;
                     masks-are = masks-right;
                     queue-is = queue-for;
                     queue-small = queue-small;

@@ -1,5 +1,5 @@
 -- A plan carried out does what the rules and the machine say: dropped, or queued. Assumes nothing.
-use Prim.Native.Nat.{ℕ}
+use Prim.Native.Nat.{ℕ, _≤_}
 use mathlib.Core.Path.{_≡_, refl, sym, ap, ap₂, _∙_}
 use mathlib.Core.Bool.{Bool, false}
 use mathlib.Core.List.{List}
@@ -13,19 +13,20 @@ use Rattle.rules.specs.Facts.{Facts}
 use Rattle.rules.specs.Outcomes.{Outcome, drops, queues, frameOf, outcomeOf, isNotLearned}
 use Rattle.machine.specs.Waiting.{size}
 use Rattle.machine.specs.FrameIn.{mask, candidateEvents, outcomeEvents, frameInEvents}
-use Rattle.lent.specs.declared.Answer.{Answer}
-use Rattle.lent.specs.Lengths.{cellCount}
-use Rattle.lent.specs.Answers.{doneWith}
+use Rattle.layout.specs.declared.answers.Answer.{Answer}
+use Rattle.layout.specs.Lengths.{cellCount}
+use Rattle.layout.specs.Answers.{doneWith}
 use Rattle.addresses.specs.Numbers.{tableOf}
 use Rattle.cells.specs.Free.{firstFree, taken}
-use Rattle.frame_rules.specs.declared.plan.Plan.{Plan}
-use Rattle.frame_rules.specs.Stored.{operationFor, storedHeader}
-use Rattle.frame_rules.specs.Candidates.{portsIn, MasksAre}
-use Rattle.frame_in.specs.Carried.{countedFalls, countIf, countedOutcome, countedBy, joinedAt, joinedBy, storedAt, storedBy, lessonBy, carriedOut}
-use Rattle.words.specs.Counters.{bumped}
+use Rattle.arrival.specs.declared.plan.Plan.{Plan}
+use Rattle.arrival.specs.Stored.{operationFor, storedHeader}
+use Rattle.arrival.specs.Candidates.{portsIn, MasksAre}
+use Rattle.frame_in.specs.Carried.{eachPort, bumpAt, pushAt, countedFalls, countIf, countedWith, outcomeCounter, countedBy, joinedAt, joinedBy, storedAt, storedBy, lessonBy, carriedOut}
+use Rattle.layout.specs.Counters.{bumped}
 use Rattle.frame_in.specs.Counting.{counted}
 use Rattle.frame_in.specs.Call.{Memories, factsIn, storedFor, joinedFor, learnedIn, answerFor, entered}
 use Rattle.frame_in.proofs.Facts.{facts-bytes, facts-port}
+use Rattle.frame_in.proofs.Queued.{two-runs, queued-last}
 use Rattle.frame_in.proofs.Counts.{queued-counted, pushed-each, left-is, events-counted}
 
 parts : {a a′ : Answer} {b b′ c c′ d d′ : List ℕ} → a ≡ a′ → b ≡ b′ → c ≡ c′ → d ≡ d′ → _≡_ {A = Answer × Memories} (a, (b, c, d)) (a′, (b′, c′, d′))
@@ -88,12 +89,12 @@ module _ (links addresses frame : List ℕ) (n port : ℕ) (plan : Plan)
     unfolding storedBy storedFor
     drop-stored memory = rw (outcome, dropped)
 
-    drop-counts : (l : List ℕ) → countedOutcome port (plan .reason) (plan .left) (so-far l) ≡ counted (outcomeEvents port (drops r)) (so-far l)
-    unfolding countedOutcome outcomeEvents counted counterNumber
+    drop-counts : (l : List ℕ) → bumped port (outcomeCounter (plan .reason)) (so-far l) ≡ counted (outcomeEvents port (drops r)) (so-far l)
+    unfolding outcomeCounter outcomeEvents counted counterNumber
     drop-counts l = rw dropped (ap (λ (k : ℕ). bumped port k (so-far l)) reason-is)
 
     drop-links : countedBy port unlearned plan (joinedBy n plan frame links) ≡ events (joinedFor (cellCount links) (outcomeOf f) links)
-    unfolding countedBy joinedBy joinedFor counterNumber
+    unfolding countedWith joinedBy joinedFor counterNumber
     drop-links = rw (outcome, dropped) (drop-counts links ∙ sym (before-outcome (drops r) outcome links))
 
     pub dropped-carried : (memory : List ℕ) → carriedOut n plan port frame memory links addresses ≡ entered port frame memory links addresses
@@ -103,7 +104,7 @@ module _ (links addresses frame : List ℕ) (n port : ℕ) (plan : Plan)
   -- ---- queued
 
   module _ (outcome : outcomeOf f ≡ queues (frameOf f) (portsLeft (f .test))) (reason-is : plan .reason ≡ 0) (masks-are : MasksAre (f .test) (plan .masks))
-      (left-are : plan .left ≡ plan .masks .left) (queue-is : plan .queue ≡ f .queue) (header-is : plan .header ≡ storedHeader (operationFor links (f .vid)) (frameOf f))
+      (left-are : plan .left ≡ plan .masks .left) (queue-is : plan .queue ≡ f .queue) (queue-low : plan .queue ≤ 3) (header-is : plan .header ≡ storedHeader (operationFor links (f .vid)) (frameOf f))
       (count-is : n ≡ cellCount links) where
     taken-left : plan .left ≡ mask (portsLeft (f .test))
     taken-left = left-are ∙ sym (left-is (f .test) (plan .masks) masks-are)
@@ -131,23 +132,35 @@ module _ (links addresses frame : List ℕ) (n port : ℕ) (plan : Plan)
     unfolding storedBy storedAt storedFor
     queue-stored memory = rw (outcome, reason-is, size-is, header-is, bytes-are, count-is)
 
-    queue-joined : joinedBy n plan frame links ≡ joinedFor (cellCount links) (outcomeOf f) links
-    unfolding joinedBy joinedAt joinedFor
+    -- queued and not yet counted
+    abbrev pushes : List ℕ
+    pushes = eachPort (pushAt n (plan .queue) (firstFree links)) (portsIn (plan .left)) (taken n (cells (length frame)) (plan .left) links)
+
+    queue-pushed : joinedBy n plan frame links ≡ eachPort (bumpAt 16) (portsIn (plan .left)) pushes
+    unfolding joinedBy joinedAt
+    queue-pushed = rw reason-is (two-runs n (plan .queue) (firstFree links) queue-low (plan .left) (taken n (cells (length frame)) (plan .left) links))
+
+    queue-joined : pushes ≡ joinedFor (cellCount links) (outcomeOf f) links
+    unfolding joinedFor
     queue-joined =
-        rw (outcome, reason-is, size-is, ports-are, taken-left, queue-at, count-is)
+        rw (outcome, size-is, ports-are, taken-left, queue-at, count-is)
         (sym (pushed-each (cellCount links) (frameOf f .queue) (firstFree links) (portsLeft (f .test)) (taken (cellCount links) (cells (length frame)) (mask (portsLeft (f .test))) links)))
 
-    queue-counts : (l : List ℕ) → countedOutcome port (plan .reason) (plan .left) (so-far l) ≡ counted (outcomeEvents port (queues (frameOf f) (portsLeft (f .test)))) (so-far l)
-    unfolding countedOutcome outcomeEvents counted counterNumber
+    queue-counts : (l : List ℕ) → eachPort (bumpAt 16) (portsIn (plan .left)) (bumped port 14 (so-far l))
+        ≡ counted (outcomeEvents port (queues (frameOf f) (portsLeft (f .test)))) (so-far l)
+    unfolding outcomeEvents counted counterNumber
     queue-counts l =
-        rw (reason-is, ports-are) (sym (queued-counted (frameOf f) (portsLeft (f .test)) (bumped port 14 (so-far l))))
+        rw ports-are (sym (queued-counted (frameOf f) (portsLeft (f .test)) (bumped port 14 (so-far l))))
 
     queue-links : countedBy port unlearned plan (joinedBy n plan frame links) ≡ events (joinedFor (cellCount links) (outcomeOf f) links)
-    unfolding countedBy counterNumber
+    unfolding countedWith outcomeCounter counterNumber
     queue-links =
-        queue-counts (joinedBy n plan frame links)
-        ∙ sym (before-outcome (queues (frameOf f) (portsLeft (f .test))) outcome (joinedBy n plan frame links))
-        ∙ ap events queue-joined
+        ap (countedBy port unlearned plan) queue-pushed
+        ∙ rw reason-is
+        (queued-last (portsIn (plan .left)) (plan .masks) unlearned port pushes
+        ∙ queue-counts pushes
+        ∙ sym (before-outcome (queues (frameOf f) (portsLeft (f .test))) outcome pushes)
+        ∙ ap events queue-joined)
 
     pub queued-carried : (memory : List ℕ) → carriedOut n plan port frame memory links addresses ≡ entered port frame memory links addresses
     unfolding carriedOut entered

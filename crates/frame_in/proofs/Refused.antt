@@ -10,10 +10,10 @@ use Rattle.rules.specs.Lines.{first}
 use Rattle.rules.specs.Refusals.{refusalNumber, frameInLines}
 use Rattle.rules.proofs.Choice.{and-left, and-right}
 use Rattle.layout.specs.Places.{linkWords, cellBytes}
-use Rattle.lent.specs.declared.Answer.{Answer}
-use Rattle.lent.specs.Lengths.{cellCount, linksFit, cellsFit, addressesFit}
-use Rattle.lent.proofs.Fits.{links-fit, cells-fit, addresses-fit}
-use Rattle.frame_rules.specs.declared.plan.Plan.{Plan}
+use Rattle.layout.specs.declared.answers.Answer.{Answer}
+use Rattle.layout.specs.Lengths.{cellCount, linksFit, cellsFit, addressesFit}
+use Rattle.layout.proofs.Fits.{links-fit, cells-fit, addresses-fit}
+use Rattle.arrival.specs.declared.plan.Plan.{Plan}
 use Rattle.frame_in.specs.Carried.{carriedOut, Ready}
 use Rattle.frame_in.specs.Met.{met}
 use Rattle.frame_in.specs.Call.{Memories, entered, frameInCall}

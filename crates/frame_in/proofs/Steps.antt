@@ -22,28 +22,28 @@ use Rattle.rules.proofs.Choice.{on}
 use Rattle.rules.proofs.Parts.{reason-reading, reason-bpdu, read-stops, counts-then, bpdu-learns-nothing}
 use Rattle.machine.specs.CountTheorems.{outcomeNumber}
 use Rattle.layout.specs.Places.{portWord, portOperationWord}
-use Rattle.packed.specs.Operations.{operationIn, operationEnd}
-use Rattle.packed.specs.Ports.{isVidWord, portIn, defaultIn, defaultOf, defaultNumber}
-use Rattle.packed.specs.States.{isStatesWord, stateIn}
-use Rattle.packed.specs.Switches.{isSwitchesWord}
-use Rattle.packed.specs.Maps.{isMapWord, bpduIn}
-use Rattle.packed.specs.Settings.{portOfWords}
+use Rattle.settings.specs.Operations.{operationIn, operationEnd}
+use Rattle.settings.specs.Ports.{isVidWord, portIn, defaultIn, defaultOf, defaultNumber}
+use Rattle.settings.specs.States.{isStatesWord, stateIn}
+use Rattle.settings.specs.Switches.{isSwitchesWord}
+use Rattle.settings.specs.Maps.{isMapWord, bpduIn}
+use Rattle.settings.specs.Settings.{portOfWords}
 use Rattle.settings.specs.Records.{statesAt}
 use Rattle.settings.specs.SettingsOf.{mapAt, switchesAt, settingsOf}
-use Rattle.frame_rules.specs.declared.arrival.Arrival.{Arrival}
-use Rattle.frame_rules.specs.declared.plan.Masks.{Masks}
-use Rattle.frame_rules.specs.declared.plan.Offer.{Offer}
-use Rattle.frame_rules.specs.Plans.{noLesson, damagedPlan, dropPlan}
-use Rattle.frame_rules.specs.Stored.{operationFor, storedHeader}
-use Rattle.frame_rules.specs.Arrivals.{ArrivalIs}
-use Rattle.frame_rules.specs.Candidates.{everyPort, managementMask, masksOf, MasksAre}
-use Rattle.frame_rules.specs.Room.{metRoom, planOffered}
+use Rattle.arrival.specs.declared.entering.Arrival.{Arrival}
+use Rattle.arrival.specs.declared.plan.Masks.{Masks}
+use Rattle.arrival.specs.declared.plan.Offer.{Offer}
+use Rattle.arrival.specs.Plans.{noLesson, damagedPlan, dropPlan}
+use Rattle.arrival.specs.Stored.{operationFor, storedHeader}
+use Rattle.arrival.specs.Arrivals.{ArrivalIs}
+use Rattle.arrival.specs.Candidates.{everyPort, managementMask, masksOf, MasksAre}
+use Rattle.arrival.specs.Room.{metRoom, planOffered}
 use Rattle.frame_in.specs.Met.{unlessDropped, bpduMasks, metEntering, metFrame, metBpdu, metPort, met}
 use Rattle.frame_in.specs.Call.{factsIn}
 use Rattle.frame_in.specs.Judged.{Lent, Judged, Way}
 use Rattle.frame_in.specs.Stages.{PastEarly, AsBpdu, NoBpdu, Ordinary}
-use Rattle.packed.proofs.PortLaws.{default-in, number-back}
-use Rattle.frame_rules.proofs.LinkWords.{port-is, handling-is, bpdu-masks-in}
+use Rattle.settings.proofs.PortLaws.{default-in, number-back}
+use Rattle.arrival.proofs.LinkWords.{port-is, handling-is, bpdu-masks-in}
 use Rattle.frame_in.proofs.Facts.{facts-bytes, facts-default, facts-bpdu, bpdu-queue, bpdu-test}
 use Rattle.frame_in.proofs.Judgements.{never-zero, damaged-judged, nothing-taught, offer-judged, drop-judged}
 

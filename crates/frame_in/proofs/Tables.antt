@@ -21,10 +21,10 @@ use Rattle.rules.proofs.Choice.{on, onOption, or-left, or-right}
 use Rattle.rules.proofs.Lines.{first-append-some}
 use Rattle.rules.proofs.Parts.{learns-exactly}
 use Rattle.layout.specs.Places.{portWord, vlanOperationWord}
-use Rattle.packed.specs.Operations.{isOperationWord}
-use Rattle.packed.specs.Ports.{isVidWord, vlanIn}
-use Rattle.packed.specs.States.{isStatesWord}
-use Rattle.packed.specs.Maps.{isMapWord}
+use Rattle.settings.specs.Operations.{isOperationWord}
+use Rattle.settings.specs.Ports.{isVidWord, vlanIn}
+use Rattle.settings.specs.States.{isStatesWord}
+use Rattle.settings.specs.Maps.{isMapWord}
 use Rattle.settings.specs.Records.{statesAt, vlanAt}
 use Rattle.settings.specs.Table.{foundVlan}
 use Rattle.settings.specs.SettingsOf.{mapAt, settingsOf}
@@ -32,8 +32,8 @@ use Rattle.settings.proofs.FindLaws.{found-there, found-nowhere, onFound}
 use Rattle.settings.specs.declared.table.Found.the-variants.{At, Nowhere, Damaged}
 use Rattle.addresses.specs.Numbers.{tableOf}
 use Rattle.addresses.specs.Search.{lookUp, damaged}
-use Rattle.frame_rules.specs.Arrivals.{portRules}
-use Rattle.frame_rules.specs.Candidates.{destinationLookUp}
+use Rattle.arrival.specs.Arrivals.{portRules}
+use Rattle.arrival.specs.Candidates.{destinationLookUp}
 use Rattle.frame_in.specs.Met.{unlessDropped, metMember, metEntry, metTable, metEntering, metFrame, metBpdu, metPort, met}
 use Rattle.frame_in.specs.Call.{factsIn, lessonIn, learnedIn}
 use Rattle.frame_in.proofs.Facts.{facts-port, facts-there, facts-vlan, facts-gid}

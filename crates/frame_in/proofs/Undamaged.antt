@@ -1,5 +1,5 @@
 -- A frame-in meets no damage in memory that is in range. Assumes nothing.
-use Prim.Native.Nat.{ℕ, _≤_, _<_}
+use Prim.Native.Nat.{ℕ, _≤_}
 use mathlib.Core.Path.{_≡_, refl}
 use mathlib.Core.Bool.{Bool, true, false}
 use mathlib.Core.List.{List, [], _∷_}
@@ -22,10 +22,10 @@ use Rattle.rules.specs.ReasonTable.{reading, rowsOf}
 use Rattle.rules.proofs.Choice.{on}
 use Rattle.rules.proofs.Tags.{decoded-are-tags}
 use Rattle.layout.specs.Places.{vlanOperationWord}
-use Rattle.lent.specs.Lengths.{cellCount}
-use Rattle.packed.specs.Operations.{isOperationWord}
-use Rattle.packed.specs.Ports.{portIn}
-use Rattle.packed.proofs.MapLaws.{queue-small as map-queue-small}
+use Rattle.layout.specs.Lengths.{cellCount}
+use Rattle.settings.specs.Operations.{isOperationWord}
+use Rattle.settings.specs.Ports.{portIn}
+use Rattle.settings.proofs.MapLaws.{queue-small as map-queue-small}
 use Rattle.settings.specs.Records.{vlanAt}
 use Rattle.settings.specs.Table.{foundVlan}
 use Rattle.settings.specs.SettingsOf.{mapAt, settingsOf}
@@ -36,13 +36,13 @@ use Rattle.cells.specs.Free.{roomFor}
 use Rattle.cells.specs.declared.free.Room.{Room}
 use Rattle.cells.specs.declared.free.Room.the-variants.{Enough, NoRoom}
 use Rattle.cells.specs.declared.free.Room.the-variants as Rooms
-use Rattle.frame_rules.specs.Candidates.{destinationLookUp}
+use Rattle.arrival.specs.Candidates.{destinationLookUp}
 use Rattle.queues.specs.Lists.{waitingOf, waitingInRange, allWaitingInRange}
-use Rattle.frame_rules.specs.Room.{roomMet, metRoom}
+use Rattle.arrival.specs.Room.{roomMet, metRoom}
 use Rattle.frame_in.specs.Met.{unlessDropped, bpduMasks, metTests, metMember, metEntry, metTable, metEntering, metFrame, metBpdu, metPort, met}
 use Rattle.frame_in.specs.Facts.{factsIn}
 use Rattle.frame_in.specs.InRange.{InRange}
-use Rattle.frame_rules.proofs.LinkWords.{port-is, queue-is}
+use Rattle.arrival.proofs.LinkWords.{port-is, queue-is}
 use Rattle.frame_in.proofs.Facts.{ordinary-queue, bpdu-queue}
 
 pass-over : (o : Option Reason) (m : Bool) → m ≡ false → unlessDropped o m ≡ false

@@ -13,9 +13,9 @@ use Rattle.rules.specs.Outcomes.{Outcome, drops, queues, outcomeOf, learns, isN
 use Rattle.rules.specs.Refusals.{Lines, frameInLines}
 use Rattle.machine.specs.Waiting.{size}
 use Rattle.machine.specs.FrameIn.{mask, frameInEvents}
-use Rattle.lent.specs.declared.Answer.{Answer}
-use Rattle.lent.specs.Lengths.{cellCount, linksFit, cellsFit, addressesFit}
-use Rattle.lent.specs.Answers.{doneWith, lengthLine, damageLine, orRefused}
+use Rattle.layout.specs.declared.answers.Answer.{Answer}
+use Rattle.layout.specs.Lengths.{cellCount, linksFit, cellsFit, addressesFit}
+use Rattle.layout.specs.Answers.{doneWith, lengthLine, damageLine, orRefused}
 use Rattle.addresses.specs.Numbers.{tableOf}
 use Rattle.addresses.specs.Search.{lookUp}
 use Rattle.addresses.specs.Writes.{markedBy, learnedBy}
@@ -23,8 +23,8 @@ use Rattle.cells.specs.Chains.{follow}
 use Rattle.cells.specs.Bytes.{storeCells}
 use Rattle.cells.specs.Stored.{storedBytes}
 use Rattle.cells.specs.Free.{firstFree, taken}
-use Rattle.frame_rules.specs.Stored.{operationFor, storedHeader}
-use Rattle.frame_rules.specs.Candidates.{destinationLookUp}
+use Rattle.arrival.specs.Stored.{operationFor, storedHeader}
+use Rattle.arrival.specs.Candidates.{destinationLookUp}
 use Rattle.frame_in.specs.Counting.{counted}
 use Rattle.frame_in.specs.Met.{met}
 unfoldable pub use Rattle.queues.specs.Lists.{pushedAt}

@@ -1,8 +1,10 @@
--- A plan carried out: what it makes of each memory. Link memory is written in this order: cells, queues, counters.
+-- A plan carried out: what it makes of each memory. Link memory is said in this order: cells, queues with the
+-- counters of queued copies, the other counters; the code may count first, since counters stand aside
+-- (`proofs/Aside.antt`).
 -- Assumes nothing: these are definitions.
 use Prim.Native.Nat.{ℕ, _^_, _≤_, _<_}
 use mathlib.Core.Path.{_≡_}
-use mathlib.Core.Bool.{Bool, true, false, not}
+use mathlib.Core.Bool.{Bool, false, not}
 use mathlib.Core.List.{List, [], _∷_, _++_}
 use lib.Dec.{eqb}
 use lib.ListN.{length}
@@ -11,8 +13,8 @@ use Rattle.rules.specs.Cells.{cells, mostCells}
 use Rattle.rules.specs.Arguments.{bit}
 use Rattle.rules.specs.Counters.{counterNumber, offered, accepted, notLearned, queued, stateOut, queueOut}
 use Rattle.layout.specs.Places.{linkWords, cellBytes}
-use Rattle.lent.specs.declared.Answer.{Answer}
-use Rattle.lent.specs.Answers.{doneWith}
+use Rattle.layout.specs.declared.answers.Answer.{Answer}
+use Rattle.layout.specs.Answers.{doneWith}
 use Rattle.cells.specs.Chains.{follow}
 use Rattle.cells.specs.Bytes.{storeCells}
 use Rattle.cells.specs.Stored.{storedBytes}
@@ -21,12 +23,12 @@ use Rattle.cells.specs.declared.free.Room.the-variants.{Enough}
 use Rattle.queues.specs.Lists.{pushed}
 use Rattle.addresses.specs.Search.{placeOf}
 use Rattle.addresses.specs.Writes.{markedBy, learnedBy}
-use Rattle.frame_rules.specs.declared.plan.Lesson.{Lesson}
-use Rattle.frame_rules.specs.declared.plan.Masks.{Masks}
-use Rattle.frame_rules.specs.declared.plan.Plan.{Plan}
-use Rattle.frame_rules.specs.Candidates.{portsIn}
-use Rattle.packed.specs.Bits.{less}
-use Rattle.words.specs.Counters.{bumped}
+use Rattle.arrival.specs.declared.plan.Lesson.{Lesson}
+use Rattle.arrival.specs.declared.plan.Masks.{Masks}
+use Rattle.arrival.specs.declared.plan.Plan.{Plan}
+use Rattle.arrival.specs.Candidates.{portsIn}
+use Rattle.settings.specs.Bits.{less}
+use Rattle.layout.specs.Counters.{bumped}
 
 -- ---- something done at some ports
 
@@ -53,16 +55,17 @@ countedFalls m links =
 unfoldable pub countIf : Bool → ℕ → List ℕ → List ℕ
 countIf unlearned port links = if unlearned then bumped port (counterNumber notLearned) links else links
 
-unfoldable pub countedOutcome : ℕ → ℕ → ℕ → List ℕ → List ℕ
-countedOutcome port reason left links =
-    if eqb reason 0
-    then eachPort (bumpAt (counterNumber queued)) (portsIn left) (bumped port (counterNumber accepted) links)
-    else bumped port reason links
+-- with the counter of the outcome
+unfoldable pub countedWith : ℕ → ℕ → Bool → Masks → List ℕ → List ℕ
+countedWith outcome port unlearned masks links =
+    bumped port outcome (countedFalls masks (countIf unlearned port (bumped port (counterNumber offered) links)))
 
-unfoldable pub countedBy : ℕ → Bool → Plan → List ℕ → List ℕ
-countedBy port unlearned plan links =
-    countedOutcome port (plan .reason) (plan .left)
-    (countedFalls (plan .masks) (countIf unlearned port (bumped port (counterNumber offered) links)))
+-- "accepted", or the reason
+unfoldable pub outcomeCounter : ℕ → ℕ
+outcomeCounter reason = if eqb reason 0 then counterNumber accepted else reason
+
+abbrev pub countedBy : ℕ → Bool → Plan → List ℕ → List ℕ
+countedBy port unlearned plan links = countedWith (outcomeCounter (plan .reason)) port unlearned (plan .masks) links
 
 -- ---- cells and queues
 
@@ -70,9 +73,13 @@ countedBy port unlearned plan links =
 abbrev pub pushAt : ℕ → ℕ → ℕ → ℕ → List ℕ → List ℕ
 pushAt n queue first port links = pushed n port queue first links
 
+-- and counted there
+abbrev pub enqueueAt : ℕ → ℕ → ℕ → ℕ → List ℕ → List ℕ
+enqueueAt n queue first port links = bumped port (counterNumber queued) (pushAt n queue first port links)
+
 unfoldable pub joinedAt : ℕ → Plan → List ℕ → List ℕ → List ℕ
 joinedAt n plan frame links =
-    eachPort (pushAt n (plan .queue) (firstFree links)) (portsIn (plan .left))
+    eachPort (enqueueAt n (plan .queue) (firstFree links)) (portsIn (plan .left))
     (taken n (cells (length frame)) (plan .left) links)
 
 unfoldable pub joinedBy : ℕ → Plan → List ℕ → List ℕ → List ℕ
@@ -87,9 +94,6 @@ storedBy n plan memory links frame = if eqb (plan .reason) 0 then storedAt n pla
 
 abbrev pub joinAt : ℕ → Plan → List ℕ → List ℕ → List ℕ → List ℕ × List ℕ
 joinAt n plan frame memory links = (storedAt n plan memory links frame, joinedAt n plan frame links)
-
-abbrev pub joinBy : ℕ → Plan → List ℕ → List ℕ → List ℕ → List ℕ × List ℕ
-joinBy n plan frame memory links = (storedBy n plan memory links frame, joinedBy n plan frame links)
 
 -- ---- addresses
 
@@ -112,6 +116,16 @@ carriedOut n plan port frame memory links addresses = (
     storedBy n plan memory links frame,
     countedBy port (lessonBy (plan .lesson) port addresses .0) plan
         (joinedBy n plan frame links),
+    lessonBy (plan .lesson) port addresses .1,
+  ),
+)
+
+-- a frame that is dropped: no cell and no queue
+unfoldable pub droppedOut : Plan → ℕ → List ℕ → List ℕ → Answer × (List ℕ × List ℕ)
+droppedOut plan port links addresses = (
+  doneWith (plan .reason) (plan .left),
+  (
+    countedWith (plan .reason) port (lessonBy (plan .lesson) port addresses .0) (plan .masks) links,
     lessonBy (plan .lesson) port addresses .1,
   ),
 )

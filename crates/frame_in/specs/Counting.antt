@@ -3,7 +3,7 @@ use Prim.Native.Nat.{ℕ}
 use mathlib.Core.List.{List, [], _∷_}
 use Rattle.rules.specs.Counters.{counterNumber}
 use Rattle.machine.specs.Events.{Event}
-use Rattle.words.specs.Counters.{bumped}
+use Rattle.layout.specs.Counters.{bumped}
 
 -- each event at its port and in its counter
 unfoldable pub counted : List Event → List ℕ → List ℕ

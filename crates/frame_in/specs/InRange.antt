@@ -6,12 +6,12 @@ use mathlib.Core.Bool.{true}
 use mathlib.Core.List.{List}
 use lib.ListN.{getD}
 use Rattle.layout.specs.Places.{portWord, vlanOperationWord}
-use Rattle.lent.specs.Lengths.{cellCount}
-use Rattle.packed.specs.Operations.{isOperationWord}
-use Rattle.packed.specs.Ports.{isVidWord}
-use Rattle.packed.specs.States.{isStatesWord}
-use Rattle.packed.specs.Switches.{isSwitchesWord}
-use Rattle.packed.specs.Maps.{isMapWord}
+use Rattle.layout.specs.Lengths.{cellCount}
+use Rattle.settings.specs.Operations.{isOperationWord}
+use Rattle.settings.specs.Ports.{isVidWord}
+use Rattle.settings.specs.States.{isStatesWord}
+use Rattle.settings.specs.Switches.{isSwitchesWord}
+use Rattle.settings.specs.Maps.{isMapWord}
 use Rattle.settings.specs.Records.{statesAt}
 use Rattle.settings.specs.Table.{vlanCount, entryAt}
 use Rattle.settings.specs.SettingsOf.{mapAt, switchesAt}

@@ -9,8 +9,8 @@ use lib.ListN.{length}
 use Rattle.rules.specs.Lines.{first}
 use Rattle.rules.specs.ReasonTable.{reading, rowsOf}
 use Rattle.layout.specs.Places.{linkWords, cellBytes}
-use Rattle.lent.specs.Lengths.{cellCount}
-use Rattle.frame_rules.specs.declared.plan.Plan.{Plan}
+use Rattle.layout.specs.Lengths.{cellCount}
+use Rattle.arrival.specs.declared.plan.Plan.{Plan}
 use Rattle.frame_in.specs.Carried.{carriedOut, Ready}
 use Rattle.frame_in.specs.Met.{met}
 use Rattle.frame_in.specs.Call.{factsIn, entered}

@@ -7,5 +7,3 @@ pub mod Judged
 pub mod Stages
 pub mod InRange
 pub mod Theorems
-pub mod Stored
-pub mod Candidates

@@ -15,23 +15,23 @@ use Rattle.rules.specs.Addresses.{key}
 use Rattle.rules.specs.Arguments.{VlanNumbers, bit}
 use Rattle.rules.specs.ReasonTable.{reading, rowsOf}
 use Rattle.layout.specs.Places.{portWord, vlanOperationWord}
-use Rattle.lent.specs.Lengths.{cellCount}
-use Rattle.packed.specs.Operations.{isOperationWord}
-use Rattle.packed.specs.Ports.{isVidWord}
-use Rattle.packed.specs.States.{isStatesWord}
-use Rattle.packed.specs.Switches.{isSwitchesWord}
-use Rattle.packed.specs.Maps.{isMapWord}
+use Rattle.layout.specs.Lengths.{cellCount}
+use Rattle.settings.specs.Operations.{isOperationWord}
+use Rattle.settings.specs.Ports.{isVidWord}
+use Rattle.settings.specs.States.{isStatesWord}
+use Rattle.settings.specs.Switches.{isSwitchesWord}
+use Rattle.settings.specs.Maps.{isMapWord}
 use Rattle.settings.specs.Records.{statesAt, vlanAt}
 use Rattle.settings.specs.Table.{foundVlan}
 use Rattle.settings.specs.SettingsOf.{mapAt, switchesAt, settingsOf}
 use Rattle.settings.specs.declared.table.Found.{Found}
 use Rattle.settings.specs.declared.table.Found.the-variants.{At, Nowhere, Damaged}
 use Rattle.addresses.specs.Search.{lookUp, damaged}
-use Rattle.frame_rules.specs.declared.plan.Masks.{Masks}
-use Rattle.frame_rules.specs.Arrivals.{portRules}
-use Rattle.frame_rules.specs.Candidates.{everyPort, managementMask, destinationLookUp, chosenMask}
-use Rattle.frame_rules.specs.Candidates.{candidatesIn, masksOf}
-use Rattle.frame_rules.specs.Room.{metRoom}
+use Rattle.arrival.specs.declared.plan.Masks.{Masks}
+use Rattle.arrival.specs.Arrivals.{portRules}
+use Rattle.arrival.specs.Candidates.{everyPort, managementMask, destinationLookUp, chosenMask}
+use Rattle.arrival.specs.Candidates.{candidatesIn, masksOf}
+use Rattle.arrival.specs.Room.{metRoom}
 use Rattle.frame_in.specs.Facts.{factsIn}
 
 -- nothing is met past a reason

@@ -15,17 +15,18 @@ use Rattle.rules.specs.Outcomes.{frameOf, isNotLearned}
 use Rattle.layout.specs.Places.{portWord, vlanOperationWord}
 use Rattle.addresses.specs.Numbers.{tableOf}
 use Rattle.addresses.specs.Search.{placeOf}
-use Rattle.packed.specs.Ports.{isVidWord, defaultOf, vlanIs}
-use Rattle.packed.specs.declared.vlan.VlanSettings.{VlanSettings}
+use Rattle.settings.specs.Ports.{isVidWord, defaultOf}
 use Rattle.settings.specs.Records.{vlanAt}
 use Rattle.settings.specs.Table.{entryAt}
 use Rattle.settings.specs.SettingsOf.{mapAt, settingsOf}
-use Rattle.frame_rules.specs.declared.arrival.Arrival.{Arrival}
-use Rattle.frame_rules.specs.declared.plan.Lesson.{Lesson}
-use Rattle.frame_rules.specs.declared.plan.Offer.{Offer}
-use Rattle.frame_rules.specs.Stored.{operationFor, storedHeader}
-use Rattle.frame_rules.specs.Arrivals.{portRules, ArrivalIs}
-use Rattle.frame_rules.specs.Candidates.{MasksAre}
+use Rattle.arrival.specs.declared.entering.Arrival.{Arrival}
+use Rattle.arrival.specs.declared.plan.Lesson.{Lesson}
+use Rattle.arrival.specs.declared.plan.Offer.{Offer}
+use Rattle.arrival.specs.Stored.{operationFor, storedHeader}
+use Rattle.arrival.specs.Arrivals.{portRules, ArrivalIs}
+use Rattle.arrival.specs.Candidates.{MasksAre}
+use Rattle.settings.specs.declared.vlan.Entry.{Entry}
+use Rattle.settings.specs.Entries.{entryIs}
 use Rattle.frame_in.specs.Carried.{lessonBy}
 use Rattle.frame_in.specs.Met.{metPort, metBpdu, metFrame, metEntering, metEntry, metMember, metTests}
 use Rattle.frame_in.specs.Call.{factsIn, learnedIn}
@@ -70,15 +71,15 @@ module _ (links addresses frame : List ℕ) (n port : ℕ) where
     pub in-range : isVidWord (entryAt links entry) ≡ true
 
   -- no reason of 1 to 9
-  pub record Member (arrival : Arrival) (vlan : VlanSettings) (operation : ℕ) : Type 0 where
-    pub way : Way links addresses frame n port (metMember links addresses port frame (vlanIs vlan))
+  pub record Member (arrival : Arrival) (vlan : Entry) : Type 0 where
+    pub way : Way links addresses frame n port (metMember links addresses port frame (entryIs vlan))
     pub ordinary : factsIn links addresses port frame .bpdu ≡ false
     pub entered : first (rowsOf entering (factsIn links addresses port frame)) ≡ none
     pub arrival-is : ArrivalIs (settingsOf links .port port) (mapAt links) frame arrival
     pub not-barred : arrival .barred ≡ 0
-    pub vlan-is : factsIn links addresses port frame .vlan ≡ vlanEntry (vlanIs vlan)
-    pub operation-is : operation ≡ operationFor links (factsIn links addresses port frame .vid)
-    pub in-range : vlanInRange (vlanIs vlan) ≡ true
+    pub vlan-is : factsIn links addresses port frame .vlan ≡ vlanEntry (entryIs vlan)
+    pub operation-is : vlan .operation ≡ operationFor links (factsIn links addresses port frame .vid)
+    pub in-range : vlanInRange (entryIs vlan) ≡ true
 
   -- the look-ups are done, and the ports' tests
   pub record Tested (learning : Bool) (lesson : Lesson) (offer : Offer) : Type 0 where

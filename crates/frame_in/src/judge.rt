@@ -3,31 +3,27 @@ ghost use Rattle.frame_in.specs.Judged.{Lent, Judged};
 ghost use Rattle.frame_in.specs.Stages.{PastEarly, NoBpdu, Ordinary, AsBpdu, InEntry, Member, Tested};
 use addresses::key_of;
 use addresses::look_up;
+use arrival::candidates::MANAGEMENT;
+use arrival::candidates::candidates;
+use arrival::candidates::chosen;
+use arrival::candidates::destination_look_up;
+use arrival::candidates::is_damaged;
+use arrival::candidates::masks_of;
+use arrival::entering::Arrival;
+use arrival::entering::absent;
+use arrival::entering::arrival_of;
+use arrival::entering::early;
+use arrival::entering::is_bpdu;
+use arrival::entering::stored_default;
+use arrival::plan::Lesson;
+use arrival::plan::Offer;
+use arrival::plan::Plan;
+use arrival::plan::damaged_plan;
+use arrival::plan::drop_plan;
+use arrival::plan::lesson_plan;
+use arrival::plan::no_lesson;
+use arrival::room::offered_plan;
 use cells::stored::StoredHeader;
-use frame_rules::arrival::Arrival;
-use frame_rules::arrival::absent;
-use frame_rules::arrival::arrival_of;
-use frame_rules::arrival::early;
-use frame_rules::arrival::is_bpdu;
-use frame_rules::arrival::stored_default;
-use frame_rules::candidates::EVERY_PORT;
-use frame_rules::candidates::MANAGEMENT;
-use frame_rules::candidates::candidates;
-use frame_rules::candidates::chosen;
-use frame_rules::candidates::destination_look_up;
-use frame_rules::candidates::is_damaged;
-use frame_rules::candidates::masks_of;
-use frame_rules::plan::Lesson;
-use frame_rules::plan::Offer;
-use frame_rules::plan::Plan;
-use frame_rules::plan::damaged_plan;
-use frame_rules::plan::drop_plan;
-use frame_rules::plan::lesson_plan;
-use frame_rules::plan::no_lesson;
-use frame_rules::reasons::NO_CANDIDATE;
-use frame_rules::reasons::NO_MEMBER;
-use frame_rules::reasons::PORT_LEARNING;
-use frame_rules::room::offered_plan;
 use layout::MAP;
 use layout::PORT;
 use layout::PORT_STRIDE;
@@ -36,18 +32,21 @@ use layout::SWITCHES;
 use layout::VLAN;
 use layout::VLAN_OPERATION;
 use layout::VLAN_STRIDE;
-use packed::bits::bit;
-use packed::map::is_map_word;
-use packed::operation::EXEMPT;
-use packed::operation::is_operation_word;
-use packed::operation::unpack_operation;
-use packed::port::is_vid_word;
-use packed::states::is_states_word;
-use packed::switches::is_switches_word;
-use packed::vlan::VlanSettings;
-use packed::vlan::unpack_vlan;
+use layout::numbers::EVERY_PORT;
+use layout::reasons::NO_CANDIDATE;
+use layout::reasons::NO_MEMBER;
+use layout::reasons::PORT_LEARNING;
+use settings::bits::bit;
+use settings::map::is_map_word;
+use settings::operation::EXEMPT;
+use settings::operation::is_operation_word;
+use settings::port::is_vid_word;
+use settings::states::is_states_word;
+use settings::switches::is_switches_word;
 use settings::table::Found;
 use settings::table::find_vlan;
+use settings::vlan::Entry;
+use settings::vlan::read_entry;
 use tags::reading::address_at;
 
 // "The one candidate 4, queue 3, no tag operation at all": that queue.
@@ -85,16 +84,16 @@ fn member(
     port: u32,
     frame: &[u8],
     arrival: Arrival,
-    vlan: VlanSettings,
-    operation: u32,
+    vlan: Entry,
 ) -> Plan
-    requires { ⌜ Member (now links) (now addresses) (now frame) n port arrival vlan operation ⌝ }
+    requires { ⌜ Member (now links) (now addresses) (now frame) n port arrival vlan ⌝ }
     ensures { λ r. ⌜ Judged (now (links .entry)) (now (addresses .entry)) (now (frame .entry)) n port r ⌝ }
 {
     let destination = destination_look_up(addresses, vlan.gid, address_at(frame, 0));
     if is_damaged(destination) {
         return damaged_plan();
     }
+    let chosen = chosen(destination);
     let source_key = key_of(vlan.gid, address_at(frame, 6));
     let source = look_up(addresses, source_key);
     if is_damaged(source) {
@@ -102,16 +101,13 @@ fn member(
     }
     let switches = links[SWITCHES];
     if is_switches_word(switches) {
-        let masks = masks_of(
-            candidates(vlan.members, chosen(destination), port),
-            links[STATES],
-            switches,
-            arrival.queue,
-        );
+        let states = links[STATES];
+        let candidates = candidates(vlan.members, chosen, port);
+        let masks = masks_of(candidates, states, switches, arrival.queue);
         let header = StoredHeader {
             length: frame.len() as u16,
             default: arrival.default,
-            operation,
+            operation: vlan.operation,
         };
         let lesson = Lesson {
             learns: true,
@@ -130,7 +126,7 @@ fn member(
             n,
             port,
             frame,
-            arrival.learning,
+            !bit(states, port),
             lesson,
             offer,
         );
@@ -153,12 +149,9 @@ fn in_entry(
 {
     let operation = links[VLAN_OPERATION + VLAN_STRIDE * entry];
     if is_operation_word(operation) {
-        let vlan = unpack_vlan(
-            links[VLAN + VLAN_STRIDE * entry],
-            unpack_operation(operation),
-        );
+        let vlan = read_entry(links[VLAN + VLAN_STRIDE * entry], operation);
         if bit(vlan.members, port) {
-            return member(links, addresses, n, port, frame, arrival, vlan, operation);
+            return member(links, addresses, n, port, frame, arrival, vlan);
         }
         return drop_plan(NO_MEMBER);
     }

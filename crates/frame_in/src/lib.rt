@@ -4,9 +4,13 @@ mod carry; // the writes
 
 ghost use mathlib.Core.Path.{_≡_};
 ghost use mathlib.Core.Bool.{_&&_};
-ghost use Rattle.lent.specs.Lengths.{linksFit, cellsFit, addressesFit};
+ghost use Rattle.layout.specs.Lengths.{linksFit, cellsFit, addressesFit};
 ghost use Rattle.frame_in.specs.Call.{frameInCall};
-use lent::Answer;
+use layout::answers::Answer;
+use layout::numbers::LAST_PORT;
+use layout::refusals::MEMORY_DAMAGED;
+use layout::refusals::MEMORY_LENGTH;
+use layout::refusals::PORT_ABOVE_FOUR;
 
 // Have the memories the lengths that the fresh call got?
 fn fits(cells: &[u8], links: &[u32], addresses: &[u64]) -> bool
@@ -14,8 +18,8 @@ fn fits(cells: &[u8], links: &[u32], addresses: &[u64]) -> bool
         ≡ (linksFit (now (links .entry))
         && (cellsFit (now (cells .entry)) (now (links .entry)) && addressesFit (now (addresses .entry)))) ⌝ }
 {
-    if lent::links_fit(links) {
-        return lent::cells_fit(cells, links) & lent::addresses_fit(addresses);
+    if layout::lengths::links_fit(links) {
+        return layout::lengths::cells_fit(cells, links) & layout::lengths::addresses_fit(addresses);
     }
     false
 }
@@ -33,15 +37,15 @@ pub fn frame_in(
         ≡ frameInCall (now (cells .entry)) (now (links .entry)) (now (addresses .entry)) port (now (frame .entry)) ⌝ }
 {
     if fits(cells, links, addresses) {
-        if 4 < port {
-            return lent::refused(2);
+        if LAST_PORT < port {
+            return layout::answers::refused(PORT_ABOVE_FOUR);
         }
         let n = links[layout::CELL_COUNT] as usize;
         let plan = judge::judge(links, addresses, n, port, frame);
         if plan.damaged {
-            return lent::refused(10);
+            return layout::answers::refused(MEMORY_DAMAGED);
         }
         return carry::carry_out(cells, links, addresses, n, port, frame, plan);
     }
-    lent::refused(1)
+    layout::answers::refused(MEMORY_LENGTH)
 }

@@ -12,8 +12,8 @@ use Rattle.rules.specs.Cells.{fewestCells, mostCells}
 use Rattle.rules.specs.Numbers.{placeCount}
 use Rattle.rules.proofs.Choice.{and-left, and-right}
 use Rattle.layout.specs.Places.{cellBytes, linkWords}
-use Rattle.lent.specs.declared.Answer.{Answer}
-use Rattle.lent.specs.Answers.{refusedBy, doneWith}
+use Rattle.layout.specs.declared.answers.Answer.{Answer}
+use Rattle.layout.specs.Answers.{refusedBy, doneWith}
 use Rattle.fresh_call.specs.Words.{freshLinks}
 use Rattle.fresh_call.specs.Calls.{cellsLent, lengthsFit, freshRefusals, freshCall}
 

@@ -1,8 +1,8 @@
 -- The settings of a fresh switch are in range. Assumes nothing.
 use mathlib.Core.Path.{_≡_, refl}
-use Rattle.rules.specs.Arguments.{isVid, OperationNumbers, operationInRange, PortNumbers, portInRange, VlanNumbers, vlanInRange}
-use Rattle.packed.specs.Ranges.{OperationRange, PortRange, VlanRange}
-use Rattle.packed.proofs.RangeLaws.{port-range, vlan-range}
+use Rattle.rules.specs.Arguments.{isVid, operationInRange, PortNumbers, portInRange, VlanNumbers, vlanInRange}
+use Rattle.settings.specs.Ranges.{PortRange, VlanRange}
+use Rattle.settings.proofs.RangeLaws.{port-range, vlan-range}
 use Rattle.settings.specs.SettingsOf.{freshOperation, freshPort, freshVlan}
 
 port-is : PortRange freshPort

@@ -8,9 +8,9 @@ use lib.Seq.{sets}
 use Rattle.slices.proofs.Runs.{sets-append, sets-whole}
 use Rattle.rules.specs.Arguments.{VlanNumbers}
 use Rattle.layout.specs.Places.{linkWords, vlanCountWord, statesWord, vlanWord, portRecord, portWord, portOperationWord, nextWord, frameWord}
-use Rattle.packed.specs.Fresh.{freshStates}
-use Rattle.packed.specs.Operations.{operationWord}
-use Rattle.packed.specs.Ports as Packed
+use Rattle.settings.specs.Fresh.{freshStates}
+use Rattle.settings.specs.Operations.{operationWord}
+use Rattle.settings.specs.Ports as Packed
 use Rattle.settings.specs.Records.{portWords, vlanWords}
 use Rattle.settings.specs.SettingsOf.{freshPort, freshVlan}
 use Rattle.fresh_call.specs.Words.{copies, freshFront, freshSwitch, freshPortRecord, freshPorts, freshVlans, freshNext, freshCell, freshCells, freshLinks}

@@ -6,10 +6,10 @@ use native.Mathlib.Omega.{arith}
 use lib.ListN.{length, getD, length-append, List·getD-append, length-replicate, getD-replicate}
 use lib.Seq.{getD-append-add}
 use Rattle.layout.specs.Places.{fixedWords, counterWord, portWord, portOperationWord, vlanWord, nextWord}
-use Rattle.packed.specs.Operations.{operationWord}
-use Rattle.packed.specs.Ports as Packed
-use Rattle.settings.specs.Records.{portWords, vlanWords}
-use Rattle.settings.specs.SettingsOf.{freshPort, freshVlan}
+use Rattle.settings.specs.Operations.{operationWord}
+use Rattle.settings.specs.Ports as Packed
+use Rattle.settings.specs.Records.{portWords}
+use Rattle.settings.specs.SettingsOf.{freshPort}
 use Rattle.fresh_call.specs.Words.{copies, freshSwitch, freshPortRecord, freshPorts, freshVlans, freshNext, freshCell, freshCells, freshLinks}
 use Rattle.fresh_call.proofs.Runs.{switch-length, port-length, ports-length, vlans-length, cell-length}
 
@@ -26,9 +26,6 @@ unfolding freshLinks
 parts n =
     sym (append-assoc (freshSwitch n) (freshVlans ++ freshPorts 5) (freshCells n n 0)
     ∙ ap (λ (r : List ℕ). freshSwitch n ++ r) (append-assoc freshVlans (freshPorts 5) (freshCells n n 0)))
-
-pub fresh-fixed : (n w : ℕ) → w < fixedWords → getD (freshLinks n) w 0 ≡ getD (freshFixed n) w 0
-fresh-fixed n w h = rw (parts n) (List·getD-append (freshFixed n) (freshCells n n 0) 0 w (omega (arith, fixed-length n)))
 
 cell-word : (left n cell c k : ℕ) → c < left → k < 20
     → getD (freshCells left n cell) (20 * c + k) 0 ≡ getD (freshCell (freshNext n (cell + c))) k 0
@@ -63,13 +60,6 @@ fresh-table n k h =
     rw past
     (getD-append-add (freshSwitch n) (freshVlans ++ (freshPorts 5 ++ freshCells n n 0)) k 0
     ∙ List·getD-append freshVlans (freshPorts 5 ++ freshCells n n 0) 0 k (omega (arith, vlans-length)))
-
--- behind VLAN entry 0 all is 0 up to the ports' records
-pub fresh-zero : (n i : ℕ) → i < 350 → getD (freshLinks n) (vlanWord 1 + i) 0 ≡ 0
-unfolding freshVlans copies
-fresh-zero n i h =
-    let at : vlanWord 1 + i ≡ vlanWord 0 + (2 + i) = omega arith in
-    rw at (fresh-table n (2 + i) (omega arith) ∙ getD-append-add (vlanWords freshVlan) (copies 350 0) i 0 ∙ getD-replicate 350 i 0 0 h)
 
 -- ---- a port's record
 

@@ -10,8 +10,8 @@ use Rattle.rules.specs.Refusals.{Lines}
 use Rattle.rules.specs.Cells.{fewestCells, mostCells, cellSize}
 use Rattle.rules.specs.Numbers.{placeCount}
 use Rattle.layout.specs.Places.{cellBytes, linkWords}
-use Rattle.lent.specs.declared.Answer.{Answer}
-use Rattle.lent.specs.Answers.{doneWith, lengthLine, orRefused}
+use Rattle.layout.specs.declared.answers.Answer.{Answer}
+use Rattle.layout.specs.Answers.{doneWith, lengthLine, orRefused}
 use Rattle.fresh_call.specs.Words.{freshLinks}
 
 -- "the fresh call takes n from the length of cell memory"

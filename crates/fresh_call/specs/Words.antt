@@ -5,7 +5,7 @@ use mathlib.Core.List.{List, [], _∷_, _++_}
 use lib.Dec.{ltb}
 use lib.ListN.{replicate}
 use Rattle.rules.specs.Choice.{if_then_else_}
-use Rattle.packed.specs.Fresh.{freshMap, freshSwitches, freshStates}
+use Rattle.settings.specs.Fresh.{freshMap, freshSwitches, freshStates}
 use Rattle.settings.specs.Records.{portWords, vlanWords}
 use Rattle.settings.specs.SettingsOf.{freshPort, freshVlan}
 

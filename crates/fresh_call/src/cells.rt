@@ -7,12 +7,13 @@ ghost use mathlib.Core.Path.{_≡_};
 ghost use Prim.Native.Nat.{_+_, _<_, _≤_};
 ghost use lib.ListN.{length};
 ghost use lib.Seq.{sets};
+ghost use Rattle.rules.specs.Cells.{mostCells};
 ghost use Rattle.layout.specs.Places.{cellWords, nextWord, linkWords};
 ghost use Rattle.fresh_call.specs.Words.{freshNext, freshCell, freshCells};
 
 // The free list: each cell's next is the one after it, the last one's is 0.
 fn next_of(n: usize, cell: usize) -> u32
-    requires { ⌜ (n ≤ 2048) × (cell < n) ⌝ }
+    requires { ⌜ (n ≤ mostCells) × (cell < n) ⌝ }
     ensures { λ r. ⌜ r ≡ freshNext n cell ⌝ }
 {
     if cell + 1 < n {
@@ -30,7 +31,7 @@ fn start_cell(links: &mut [u32], cell: usize, next: u32)
 }
 
 pub fn start_cells(links: &mut [u32], n: usize)
-    requires { ⌜ (n ≤ 2048) × (linkWords n ≤ length (now links)) ⌝ }
+    requires { ⌜ (n ≤ mostCells) × (linkWords n ≤ length (now links)) ⌝ }
     ensures { λ _. ⌜ now (links .exit) ≡ sets (now (links .entry)) (nextWord 0) (freshCells n n 0) ⌝ }
 {
     let mut cell = 0;

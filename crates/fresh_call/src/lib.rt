@@ -8,20 +8,26 @@ use crate::records::start_ports;
 use crate::records::start_vlans;
 use crate::words::start_switch;
 use addresses::forget_all;
+use layout::CELL_SIZE;
 use layout::CELL_STRIDE;
 use layout::FIXED_WORDS;
-use lent::Answer;
-use lent::done;
-use lent::refused;
+use layout::answers::Answer;
+use layout::answers::done;
+use layout::answers::refused;
+use layout::numbers::FEWEST_CELLS;
+use layout::numbers::MOST_CELLS;
+use layout::numbers::PLACES;
+use layout::refusals::MEMORY_LENGTH;
 ghost use mathlib.Core.Path.{_≡_};
 ghost use Prim.Native.Nat.{_≤_};
 ghost use lib.ListN.{length};
+ghost use Rattle.rules.specs.Cells.{mostCells};
 ghost use Rattle.layout.specs.Places.{linkWords};
 ghost use Rattle.fresh_call.specs.Words.{freshLinks};
 ghost use Rattle.fresh_call.specs.Calls.{lengthsFit, freshCall};
 
 fn start_links(links: &mut [u32], n: usize)
-    requires { ⌜ (n ≤ 2048) × (length (now links) ≡ linkWords n) ⌝ }
+    requires { ⌜ (n ≤ mostCells) × (length (now links) ≡ linkWords n) ⌝ }
     ensures { λ _. ⌜ now (links .exit) ≡ freshLinks n ⌝ }
 {
     start_switch(links, n as u32);
@@ -30,15 +36,19 @@ fn start_links(links: &mut [u32], n: usize)
     start_cells(links, n);
 }
 
+const FEWEST: usize = FEWEST_CELLS as usize;
+
+const MOST: usize = MOST_CELLS as usize;
+
 fn lengths_fit(cells: &[u8], links: &[u32], addresses: &[u64]) -> bool
     ensures { λ r. ⌜ r ≡ lengthsFit (now (cells .entry)) (now (links .entry)) (now (addresses .entry)) ⌝ }
 {
-    let n = cells.len() / 80;
-    (64 <= n)
-        & (n <= 2048)
-        & (cells.len() == 80 * n)
+    let n = cells.len() / CELL_SIZE;
+    (FEWEST <= n)
+        & (n <= MOST)
+        & (cells.len() == CELL_SIZE * n)
         & (links.len() == FIXED_WORDS + CELL_STRIDE * n)
-        & (addresses.len() == 4112)
+        & (addresses.len() == PLACES)
 }
 
 pub fn fresh(cells: &[u8], links: &mut [u32], addresses: &mut [u64]) -> Answer
@@ -46,9 +56,9 @@ pub fn fresh(cells: &[u8], links: &mut [u32], addresses: &mut [u64]) -> Answer
         ≡ freshCall (now (cells .entry)) (now (links .entry)) (now (addresses .entry)) ⌝ }
 {
     if lengths_fit(cells, links, addresses) {
-        start_links(links, cells.len() / 80);
+        start_links(links, cells.len() / CELL_SIZE);
         forget_all(addresses);
         return done(0, 0);
     }
-    refused(1)
+    refused(MEMORY_LENGTH)
 }

@@ -6,19 +6,20 @@ use layout::PORT_OPERATION;
 use layout::PORT_STRIDE;
 use layout::VLAN;
 use layout::VLAN_STRIDE;
-use packed::operation::OperationSettings;
-use packed::operation::pack_operation;
-use packed::port::PortSettings;
-use packed::port::pack_port;
-use packed::vlan::VlanSettings;
-use settings::vlan::write_vlan;
+use layout::numbers::EVERY_PORT;
+use settings::operation::OperationSettings;
+use settings::operation::pack_operation;
+use settings::port::PortSettings;
+use settings::port::pack_port;
+use settings::vlan::VlanSettings;
+use settings::vlan_words::write_vlan;
 ghost use mathlib.Core.Path.{_≡_};
 ghost use Prim.Native.Nat.{_<_, _≤_};
 ghost use lib.ListN.{length};
 ghost use lib.Seq.{sets};
 ghost use Rattle.layout.specs.Places.{fixedWords, portRecord, vlanWord};
-ghost use Rattle.packed.specs.Operations.{operationIs};
-ghost use Rattle.packed.specs.Ports.{portIs, vlanIs};
+ghost use Rattle.settings.specs.Operations.{operationIs};
+ghost use Rattle.settings.specs.Ports.{portIs, vlanIs};
 ghost use Rattle.settings.specs.SettingsOf.{freshOperation, freshPort, freshVlan};
 ghost use Rattle.fresh_call.specs.Words.{freshPortRecord, freshPorts, freshVlans};
 
@@ -57,7 +58,7 @@ fn fresh_vlan() -> VlanSettings
     let operation = fresh_operation();
     VlanSettings {
         vid: 1,
-        members: 31,
+        members: EVERY_PORT,
         gid: 0,
         operation,
     }

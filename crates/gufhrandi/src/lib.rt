@@ -1,7 +1,7 @@
 // The C interface: each function is the call of its name, and promises what the call does. include/gufhrandi.h declares
 // them.
 ghost use mathlib.Core.Path.{_≡_};
-ghost use Rattle.lent.specs.Lengths.{linkWordsFor};
+ghost use Rattle.layout.specs.Lengths.{linkWordsFor};
 ghost use Rattle.fresh_call.specs.Calls.{freshCall};
 ghost use Rattle.frame_in.specs.Call.{frameInCall};
 ghost use Rattle.take_out.specs.Take.{takeCall};
@@ -9,14 +9,20 @@ ghost use Rattle.take_out.specs.Drain.{drainCall};
 ghost use Rattle.address_calls.specs.Calls.{ageCall, staticCall, removeCall};
 ghost use Rattle.setting_calls.specs.Calls.{counterCall, portCall, mapCall, queueSwitchCall, bpduCall};
 ghost use Rattle.setting_calls.specs.Vlans.{vlanCall, clearVlanCall};
-use lent::Answer;
+use layout::answers::Answer;
+use settings::operation::OperationSettings;
+use settings::port::PortSettings;
+use settings::vlan::VlanSettings;
+
+pub mod perform; // any call, by the C function of its name
+pub mod handed; // what a driver hands over
 
 // Words of link memory to lend for a cell count; 0: no such count.
 #[no_mangle]
 pub extern "C" fn gufhrandi_link_words(cell_count: u32) -> u64
     ensures { λ r. ⌜ r ≡ linkWordsFor «cell_count» ⌝ }
 {
-    lent::link_words(cell_count)
+    layout::lengths::link_words(cell_count)
 }
 
 #[no_mangle]
@@ -109,19 +115,23 @@ pub extern "C" fn gufhrandi_port(
     setting_calls::port::set_port(
         links,
         port,
-        state,
-        assignment,
-        vid,
-        pcp,
-        dei,
-        flags,
-        kind,
-        tag_type,
-        vid_source,
-        pcp_source,
-        op_vid,
-        op_pcp,
-        op_dei,
+        PortSettings {
+            state,
+            assignment,
+            vid,
+            pcp,
+            dei,
+            flags,
+            operation: OperationSettings {
+                kind,
+                tag_type,
+                vid_source,
+                pcp_source,
+                vid: op_vid,
+                pcp: op_pcp,
+                dei: op_dei,
+            },
+        },
     )
 }
 
@@ -158,16 +168,20 @@ pub extern "C" fn gufhrandi_vlan(
 {
     setting_calls::vlan::set_vlan(
         links,
-        vid,
-        members,
-        gid,
-        kind,
-        tag_type,
-        vid_source,
-        pcp_source,
-        op_vid,
-        op_pcp,
-        op_dei,
+        VlanSettings {
+            vid,
+            members,
+            gid,
+            operation: OperationSettings {
+                kind,
+                tag_type,
+                vid_source,
+                pcp_source,
+                vid: op_vid,
+                pcp: op_pcp,
+                dei: op_dei,
+            },
+        },
     )
 }
 

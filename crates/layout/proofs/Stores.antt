@@ -17,23 +17,6 @@ module _ (l : List ℕ) (w v : ℕ) where
         record-word = λ p k hp hk. getD-set-other l w (counterWord p k) v 0 (λ e. apart p k hp hk (sym e));
       }
 
-  pub settings-free : freeCountWord ≤ w → w ≤ firstFreeWord → SettingsSame l (set l w v)
-  settings-free h k =
-      record {
-        word = λ u b f g. getD-set-other l w u v 0 (λ e. omega arith);
-        record-word = λ p i hp hi. getD-set-other l w (counterWord p i) v 0 (λ e. omega arith);
-      }
-
-  pub cells-store : (w ≡ freeCountWord → ⊥) → (w ≡ firstFreeWord → ⊥)
-      → ((c : ℕ) → w ≡ nextWord c → ⊥) → ((c : ℕ) → w ≡ frameWord c → ⊥) → CellsSame l (set l w v)
-  cells-store f g n s =
-      record {
-        freeCount = getD-set-other l w freeCountWord v 0 (λ e. f (sym e));
-        firstFree = getD-set-other l w firstFreeWord v 0 (λ e. g (sym e));
-        next = λ c. getD-set-other l w (nextWord c) v 0 (λ e. n c (sym e));
-        frame = λ c. getD-set-other l w (frameWord c) v 0 (λ e. s c (sym e));
-      }
-
   pub queues-store : Elsewhere w → QueuesSame l (set l w v)
   queues-store else =
       record {

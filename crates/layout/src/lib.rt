@@ -1,5 +1,13 @@
 // The layout paper, "Link memory": where each field stands, as constants. A record's or a table's place i is its first
 // word and i of its strides.
+pub mod numbers; // the numbers of docs/RULES.md
+pub mod refusals; // the refusals, by number
+pub mod reasons; // the reasons, by number
+pub mod counters; // the counters, by number
+pub mod answers; // what a call answers
+pub mod lengths; // the lengths of lent memory
+pub mod counter; // a counter's word
+
 ghost use mathlib.Core.Path.{_≡_};
 ghost use Prim.Native.Nat.{_≤_, _<_};
 ghost use Rattle.layout.specs.Cells.{clamped};

@@ -1,22 +1,20 @@
 -- What a frame-in answers, queues and learns. Assumes nothing.
-use Prim.Native.Nat.{ℕ, _+_, _≤_}
-use mathlib.Core.Path.{_≡_, refl, sym, ap, _∙_, subst}
-use mathlib.Core.Bool.{Bool, true, false, false≢true, true≢false}
-use mathlib.Core.List.{List, [], _∷_, _++_}
-use mathlib.Core.Option.{Option, none, some}
+use Prim.Native.Nat.{ℕ, _+_}
+use mathlib.Core.Path.{_≡_, refl, ap, _∙_, subst}
+use mathlib.Core.Bool.{true, false, true≢false}
+use mathlib.Core.List.{List, [], _∷_}
+use mathlib.Core.Option.{none, some}
 use native.Mathlib.Omega.{arith}
-use lib.Dec.{eqb}
 use lib.ListN.{length}
 use borrow.Author.Tests.{eq-eqb}
 use Rattle.rules.specs.Choice.{sift, isNone, among}
 use Rattle.rules.specs.Cells.{cells}
 use Rattle.rules.specs.Reasons.{Reason, reasonNumber}
 use Rattle.rules.specs.PortTests.{portsLeft}
-use Rattle.rules.specs.Facts.{factsOf}
 use Rattle.rules.specs.ReasonTable.{queueing, partNumber, reasonTable, linesIn, rowsOf, reasonFor}
 use Rattle.rules.specs.Outcomes.{frameOf, outcomeBy, outcomeOf, learns, tableAfter}
 use Rattle.rules.specs.ArrivalTheorems.{PastEntering}
-use Rattle.rules.proofs.Choice.{on, onList, each-first}
+use Rattle.rules.proofs.Choice.{on, each-first}
 use Rattle.rules.proofs.Lines.{holds-none}
 use Rattle.rules.proofs.Parts.{learns-exactly, bpdu-learns-nothing}
 use Rattle.rules.proofs.PortTests.{ports-exactly}

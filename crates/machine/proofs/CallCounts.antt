@@ -1,7 +1,7 @@
 -- What each counter counts of each call. Assumes nothing.
 use Prim.Native.Nat.{ℕ, _+_, _≤_, _<_}
 use mathlib.Core.Path.{_≡_, refl, sym, ap, ap₂, _∙_}
-use mathlib.Core.Bool.{Bool, true, false, _&&_, _||_, false≢true, true≢false}
+use mathlib.Core.Bool.{Bool, true, false, _&&_, false≢true}
 use mathlib.Core.List.{List, [], _∷_, _++_}
 use mathlib.Core.List as Lists
 use mathlib.Core.Option.{Option, none, some}
@@ -17,14 +17,13 @@ use Rattle.rules.specs.Addresses.{isNoPlace}
 use Rattle.rules.specs.PortTests.{Test, passes, notMember, arrival, elsewhere, state, queueOff, portsLeft}
 use Rattle.rules.specs.Facts.{Facts, factsOf}
 use Rattle.rules.specs.ReasonTable.{reasonFor}
-use Rattle.rules.specs.Outcomes.{Frame, frameOf, Outcome, drops, queues, outcomeBy, outcomeOf, countsTests, learns, learningFor, isNotLearned}
-use Rattle.rules.specs.ArrivalTheorems.{PastEntering, PastChoosing}
+use Rattle.rules.specs.Outcomes.{Frame, frameOf, outcomeBy, outcomeOf, countsTests, learns, learningFor, isNotLearned}
 use Rattle.rules.proofs.Choice.{on, onOption, and-left, and-right, or-left, or-right, eqb-self}
 use Rattle.rules.proofs.Parts.{learns-exactly, counts-only, counts-then}
 use Rattle.rules.proofs.PortTests.{isState, isQueueOff, left-passes, passes-left, port-among, among-port}
 use Rattle.rules.proofs.Addresses.{no-place-only, no-place-then}
 use Rattle.machine.specs.Waiting.{portAt}
-use Rattle.machine.specs.Events.{Event, counts, drains, bumps, count}
+use Rattle.machine.specs.Events.{counts, drains, bumps, count}
 use Rattle.rules.specs.Requests.{FrameInRequest, TakeRequest}
 use Rattle.machine.specs.State.{State, Call, frameIn, take, age, counter, port, vlan, clearVlan, static, remove, map, queueSwitch, drain, bpdu, Step}
 use Rattle.machine.specs.FrameIn.{factsAt, testEvent, testEvents, candidateEvents, lessonEvents, joinEvents, outcomeEvents, frameInEvents, enters, frameInStep}
@@ -224,9 +223,6 @@ module _ (f : Facts) (b : Bool) (r k : ℕ) where
       ∙ ap (λ (n : ℕ). n + count r k (outcomeEvents (f .port) (outcomeOf f)))
       (count-append r k (counts offered (f .port) ∷ []) (lessonEvents (f .port) b ++ candidateEvents f)
       ∙ omega (arith, offered-event (f .port) r k, count-append r k (lessonEvents (f .port) b) (candidateEvents f)))
-
-  not-offered : eqb k 0 ≡ false → once (eqb r (f .port) && eqb k 0) ≡ 0
-  not-offered h = rw h (on (eqb r (f .port)) (λ e. rw e) (λ e. rw e))
 
   lesson-none : eqb k 15 ≡ false → count r k (lessonEvents (f .port) b) ≡ 0
   lesson-none h =

@@ -1,23 +1,23 @@
 -- Whatever a history queues, sends or drains, a frame-in of that history brought, and it is the frame of its facts of that moment.
 -- Assumes nothing.
 use Prim.Native.Nat.{ℕ, _≤_}
-use mathlib.Core.Path.{_≡_, refl, sym, ap, _∙_, subst}
-use mathlib.Core.Bool.{Bool, true, false, _&&_}
-use mathlib.Core.List.{List, [], _∷_, _++_}
+use mathlib.Core.Path.{_≡_, refl, sym, ap, _∙_}
+use mathlib.Core.Bool.{true, _&&_}
+use mathlib.Core.List.{List, [], _∷_}
 use mathlib.Core.Option.{Option, none, some}
 use native.Mathlib.Omega.{arith}
-use lib.Dec.{eqb, ltb}
+use lib.Dec.{eqb}
 use lib.ListN.{length}
 use lib.ListN as ListN
 use borrow.Author.Tests.{ltb-false}
-use Rattle.rules.specs.Choice.{if_then_else_, sift, among, Each, nobody, also}
+use Rattle.rules.specs.Choice.{sift, among, Each, nobody, also}
 use Rattle.rules.specs.Lines.{first}
 use Rattle.rules.specs.Tags.{Bytes, tagsOf}
 use Rattle.rules.specs.Reasons.{Reason}
 use Rattle.rules.specs.PortTests.{portsLeft}
 use Rattle.rules.specs.Facts.{Packet, Facts, factsOf}
 use Rattle.rules.specs.ReasonTable.{reading, partNumber, reasonTable, linesIn, rowsOf, reasonFor}
-use Rattle.rules.specs.Outcomes.{Frame, frameOf, drops, queues, outcomeBy, outcomeOf, isNotLearned}
+use Rattle.rules.specs.Outcomes.{Frame, frameOf, outcomeBy, outcomeOf, isNotLearned}
 use Rattle.rules.specs.Operations.{retagged}
 use Rattle.rules.proofs.Choice.{on, onOption, and-left, each-append, each-back, each-first, each-map}
 use Rattle.rules.proofs.Lines.{holds-none}
@@ -30,12 +30,12 @@ use Rattle.machine.specs.Waiting.{portAt, queueAt}
 use Rattle.machine.specs.Events.{here, frameInto, putIn, takenOut}
 use Rattle.rules.specs.Requests.{FrameInRequest, TakeRequest}
 use Rattle.machine.specs.State.{State, Call, frameIn, take, age, counter, port, vlan, clearVlan, static, remove, map, queueSwitch, drain, bpdu, done}
-use Rattle.machine.specs.FrameIn.{factsAt, joinEvents, outcomeEvents, enters, frameInStep}
-use Rattle.machine.specs.TakeOut.{leavingBytes, served, taken, takeStep, drainStep}
+use Rattle.machine.specs.FrameIn.{factsAt, outcomeEvents, enters, frameInStep}
+use Rattle.machine.specs.TakeOut.{served, taken, takeStep, drainStep}
 use Rattle.machine.specs.SettingCalls.{silently, settle}
-use Rattle.machine.specs.Machine.{linesOf, ageStep, carryOut, refusing, unlessRefused, perform, next}
+use Rattle.machine.specs.Machine.{ageStep, carryOut, refusing, perform, next}
 use Rattle.machine.specs.History.{after, events, fresh}
-use Rattle.machine.specs.CallTheorems.{Allowed, factsNow, Serves, LeavesAs, Sends}
+use Rattle.machine.specs.CallTheorems.{factsNow, Sends}
 use Rattle.machine.specs.Demands.{Came, Left}
 use Rattle.machine.proofs.Steps.{perform-has}
 use Rattle.machine.proofs.Queues.{putIn-append, putIn-joined, distinct-left, frame-in-puts, fifo-fresh, drained-in}

@@ -1,14 +1,12 @@
 -- Which frame a take sends, with which bytes; and what it and a drain free. Assumes nothing.
 use Prim.Native.Nat.{ℕ, _+_, _≤_}
 use mathlib.Core.Path.{_≡_, refl, sym, ap, _∙_, subst}
-use mathlib.Core.Logic.{_↔_}
-use mathlib.Core.Bool.{Bool, true, false, _&&_, false≢true, true≢false}
+use mathlib.Core.Bool.{true, false}
 use mathlib.Core.List.{List, [], _∷_, _++_}
-use mathlib.Core.Option.{Option, none, some}
+use mathlib.Core.Option.{none, some}
 use native.Mathlib.Omega.{arith}
 use lib.Dec.{eqb}
 use lib.ListN.{length}
-use borrow.Author.Tests.{eqb-true, not-true}
 use Rattle.rules.specs.Choice.{if_then_else_, sift, among, without, Each, nobody, also}
 use Rattle.rules.specs.Numbers.{placeCount}
 use Rattle.rules.specs.Outcomes.{Frame}
@@ -20,9 +18,9 @@ use Rattle.rules.proofs.Choice.{on, onList, onOption, among-without-same}
 use Rattle.rules.proofs.Leaving.{leaving-theorems}
 use Rattle.rules.proofs.Operated.{leaves-with}
 use Rattle.rules.proofs.Addresses.{address-theorems}
-use Rattle.machine.specs.Waiting.{Waiting, size, cellsInUse, portAt, waitsAt, queueAt, stay, leave, send, drain}
+use Rattle.machine.specs.Waiting.{Waiting, size, cellsInUse, portAt, waitsAt, stay, leave, send, drain}
 use Rattle.rules.specs.Requests.{TakeRequest}
-use Rattle.machine.specs.State.{State, take, drain as drainCall, age, Step, done}
+use Rattle.machine.specs.State.{State, take, drain as drainCall, Step, done}
 use Rattle.machine.specs.TakeOut.{leavingStack, leavingBytes, served, taken, takeStep, drainStep}
 use Rattle.machine.specs.Machine.{ageStep, linesOf, carryOut, unlessRefused, perform}
 use Rattle.machine.specs.CallTheorems.{Allowed, NothingWaits, Serves, LeavesAs, Sends, TakeTheorems, onlyAt, cellsOnlyAt, CellTheorems, OtherCallTheorems}

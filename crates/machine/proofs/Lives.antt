@@ -1,15 +1,15 @@
 -- Histories over all fourteen calls: what a list of them leaves is what the history under way leaves. Assumes nothing.
 use Prim.Native.Nat.{ℕ, _≤_}
 use mathlib.Core.Path.{_≡_, refl, sym, ap, _∙_}
-use mathlib.Core.Bool.{Bool, true, false, _&&_, not}
+use mathlib.Core.Bool.{_&&_}
 use mathlib.Core.List.{List, [], _∷_, _++_}
-use mathlib.Core.Option.{Option, none, some}
+use mathlib.Core.Option.{none, some}
 use lib.Dec.{leb}
 use borrow.Author.Tests.{leb-true, le-leb}
 use Rattle.rules.specs.Lines.{first}
-use Rattle.rules.specs.Refusals.{Refusal, memoryLength, freshLines}
+use Rattle.rules.specs.Refusals.{memoryLength, freshLines}
 use Rattle.rules.proofs.Choice.{on, onOption, and-left, and-right}
-use Rattle.machine.specs.State.{State, Call, refused, done}
+use Rattle.machine.specs.State.{State, Call}
 use Rattle.machine.specs.Machine.{perform, next}
 use Rattle.machine.specs.History.{fresh, after, HostCall, start, call, misfit, startUnlessRefused, startAnswer, after₁, answer₁, life, Current, startCurrent, current₁, currentAfter}
 use Rattle.machine.specs.LifeTheorems.{begun, OneCall, LifeTheorems}

@@ -1,30 +1,30 @@
 -- When each call gets each of its refusals. Assumes nothing.
-use Prim.Native.Nat.{ℕ, _^_, _≤_, _<_}
+use Prim.Native.Nat.{ℕ, _≤_, _<_}
 use mathlib.Core.Path.{_≡_, refl, sym, ap, ap₂, _∙_}
 use mathlib.Core.Logic.{_↔_}
 use mathlib.Core.Bool.{Bool, true, false, not, _&&_, false≢true, true≢false}
-use mathlib.Core.List.{List, [], _∷_}
+use mathlib.Core.List.{[], _∷_}
 use mathlib.Core.Option.{none, some}
 use native.Mathlib.Omega.{arith}
 use lib.Dec.{eqb, leb, ltb}
 use lib.ListN.{length}
 use borrow.Author.Tests.{leb-true, leb-false, le-leb, lt-leb, ltb-true, ltb-false, lt-ltb, le-ltb, eqb-false, not-true, not-false}
-use Rattle.rules.specs.Lines.{Line, line, first}
+use Rattle.rules.specs.Lines.{line, first}
 use Rattle.rules.specs.Tags.{isGroup}
 use Rattle.rules.specs.Settings.{isThere}
 use Rattle.rules.specs.Tables.{isFound, nowhere, at}
 use Rattle.rules.specs.Addresses.{Table, key, find, emptyFor, noPlaceFor}
 use Rattle.rules.specs.Arguments.{isVid, isAddress, VlanNumbers, portInRange, vlanInRange}
-use Rattle.rules.specs.RangeTheorems.{PortFits, VlanFits}
+use Rattle.rules.specs.RangeTheorems.{VlanFits}
 use Rattle.rules.specs.Refusals.{Refusal, portAboveFour, outOfRange, groupAddress, shortBuffer, vlansInUse, vlanNotThere, placesInUse, addressNotThere, refusalNumber, Lines, frameInLines, takeLines, ageLines, counterLines, portLines, vlanLines, clearVlanLines, staticLines, removeLines, mapLines, queueSwitchLines, drainLines, bpduLines}
 use Rattle.rules.proofs.Choice.{on, and-left, and-right}
 use Rattle.rules.proofs.Tables.{onFound}
 use Rattle.rules.proofs.Ranges.{vids, addresses, range-theorems}
 use Rattle.rules.proofs.Addresses.{address-theorems}
-use Rattle.rules.specs.Requests.{FrameInRequest, TakeRequest, CounterRequest, PortRequest, StaticRequest, RemoveRequest, MapRequest, SwitchRequest}
-use Rattle.machine.specs.State.{State, Call, frameIn, take, age, counter, port, vlan, clearVlan, static, remove, map, queueSwitch, drain, bpdu, refused}
+use Rattle.rules.specs.Requests.{StaticRequest}
+use Rattle.machine.specs.State.{State, Call, frameIn, take, age, counter, port, vlan, clearVlan, static, remove, map, queueSwitch, drain, bpdu}
 use Rattle.machine.specs.SettingCalls.{noEntryLeft}
-use Rattle.machine.specs.Machine.{linesOf, perform}
+use Rattle.machine.specs.Machine.{linesOf}
 use Rattle.machine.specs.RefusedWhen.{ExactlyIf, KeyFits, RefusedWhen}
 use Rattle.machine.proofs.Refusals.{refused-by, refuses}
 

@@ -1,41 +1,38 @@
 -- The opposites of the slips that are seen in class. Assumes nothing.
-use Prim.Native.Nat.{ℕ, _+_, _≤_}
-use mathlib.Core.Path.{_≡_, refl, sym, ap, _∙_, subst}
-use mathlib.Core.Bool.{Bool, true, false, _&&_, _||_, false≢true, true≢false}
-use mathlib.Core.List.{List, [], _∷_, _++_}
-use mathlib.Core.Option.{Option, none, some}
+use Prim.Native.Nat.{ℕ}
+use mathlib.Core.Path.{_≡_, refl, sym, ap, _∙_}
+use mathlib.Core.Bool.{true, false, _||_, false≢true, true≢false}
+use mathlib.Core.List.{List, [], _∷_}
+use mathlib.Core.Option.{none, some}
 use native.Mathlib.Omega.{arith}
 use lib.Dec.{eqb}
-use borrow.Author.Tests.{eqb-true, eqb-false, ne-eqb}
-use Rattle.rules.specs.Choice.{if_then_else_, sift, among, Each}
+use borrow.Author.Tests.{eqb-true, ne-eqb}
+use Rattle.rules.specs.Choice.{sift, among}
 use Rattle.rules.specs.Lines.{first}
 use Rattle.rules.specs.Tags.{Header, Tag, isGroup, destination, source}
-use Rattle.rules.specs.Operations.{Source, outermost, Kind, none as noKind, pop, push, swap, popAll, Operation, Origin}
+use Rattle.rules.specs.Operations.{Source, outermost, none as noKind, pop, push, swap, popAll, Operation, Origin}
 use Rattle.rules.specs.LeavingTheorems.{HeaderFrom, from-operation, from-outermost, outermost-missing, from-second, second-missing, both-missing, IsNew, Operated, by-none, by-pop, by-pop-of-none, by-push, by-swap, by-swap-of-none, by-pop-all}
 use Rattle.rules.specs.Settings.{Vlan, learning, isLearning, vlanOf}
 use Rattle.rules.specs.Tables.{nowhere}
-use Rattle.rules.specs.Addresses.{Entry, key, found, group, unknown, find}
-use Rattle.rules.specs.Reasons.{Reason, noCandidate, reasonNumber}
-use Rattle.rules.specs.PortTests.{Test, passes, state, queueOff, anyCandidate}
-use Rattle.rules.specs.Facts.{Facts, factsOf}
-use Rattle.rules.specs.ReasonTable.{choosing, queueing, partNumber, reasonTable, linesIn, rowsOf, reasonFor}
-use Rattle.rules.specs.Outcomes.{Frame}
+use Rattle.rules.specs.Addresses.{Entry, key, found, find}
+use Rattle.rules.specs.Reasons.{noCandidate, reasonNumber}
+use Rattle.rules.specs.PortTests.{passes, state, queueOff}
+use Rattle.rules.specs.Facts.{factsOf}
+use Rattle.rules.specs.ReasonTable.{choosing, partNumber, reasonTable, linesIn, rowsOf, reasonFor}
 use Rattle.rules.specs.FactsTheorems.{FactsTheorems}
 use Rattle.rules.specs.ArrivalTheorems.{PastEntering, Candidate, TestTheorems, DisabledOrForwarding}
-use Rattle.rules.proofs.Choice.{on, onOption, each-first, each-rest}
-use Rattle.rules.proofs.Lines.{holds-none}
+use Rattle.rules.proofs.Choice.{on, onOption}
 use Rattle.rules.proofs.Facts.{facts-theorems}
 use Rattle.rules.proofs.PortTests.{test-theorems}
 use Rattle.rules.proofs.Parts.{reason-choosing}
 use Rattle.rules.proofs.Arrival.{no-candidate-exactly, learning-exactly}
-use Rattle.machine.specs.Waiting.{Waiting, size, cellsInUse, waitsAt}
-use Rattle.rules.specs.Requests.{FrameInRequest, TakeRequest}
-use Rattle.machine.specs.State.{State, Call, frameIn, take, done, freeCells}
+use Rattle.rules.specs.Requests.{FrameInRequest}
+use Rattle.machine.specs.State.{State, Call, frameIn, done, freeCells}
 use Rattle.machine.specs.FrameIn.{factsAt}
 use Rattle.machine.specs.Machine.{perform}
 use Rattle.machine.specs.History.{fresh, after}
-use Rattle.machine.specs.CallTheorems.{Allowed, factsNow, Joined, Serves, Sends, onlyAt}
-use Rattle.machine.specs.Slips.{PriorityTagged, reads-none, reads-outermost, reads-second, VidZero, Broadcast, OfTheFirst, SecondTag, FoundNoMember, OwnSender, Slips}
+use Rattle.machine.specs.CallTheorems.{Allowed, factsNow, Joined, Sends, onlyAt}
+use Rattle.machine.specs.Slips.{PriorityTagged, reads-none, reads-outermost, reads-second, Broadcast, OfTheFirst, SecondTag, Slips}
 use Rattle.machine.proofs.Arrivals.{frame-in-theorems}
 use Rattle.machine.proofs.Leaving.{cell-theorems}
 use Rattle.machine.proofs.Demands.{holds}

@@ -1,25 +1,22 @@
 -- Each waiting frame waits somewhere, at ports that there are, in one of the four queues. Assumes nothing.
-use Prim.Native.Nat.{ℕ, _/_, _≤_, _<_}
-use mathlib.Core.Path.{_≡_, refl, sym, ap, _∙_, subst}
-use mathlib.Core.Bool.{Bool, true, false, _||_, false≢true, true≢false}
-use mathlib.Core.List.{List, [], _∷_, _++_}
-use mathlib.Core.Option.{Option, none, some}
+use Prim.Native.Nat.{ℕ, _≤_}
+use mathlib.Core.Path.{_≡_, refl}
+use mathlib.Core.Bool.{Bool}
+use mathlib.Core.List.{List, [], _∷_}
 use native.Mathlib.Omega.{arith}
-use lib.Dec.{eqb}
-use lib.ListN.{getD, length}
 use borrow.Author.Tests.{eq-eqb}
-use Rattle.rules.specs.Choice.{sift, among, without, isNone, Distinct, Each, nobody, also}
+use Rattle.rules.specs.Choice.{sift, among, without, Distinct, Each, nobody, also}
 use Rattle.rules.specs.Numbers.{allPorts}
-use Rattle.rules.specs.Tags.{Header, Tag, Bytes, HeaderInRange, tagsOf}
+use Rattle.rules.specs.Tags.{Header, Tag, Bytes, tagsOf}
 use Rattle.rules.specs.TagTheorems.{IsTag}
 use Rattle.rules.specs.Operations.{headerAt}
 use Rattle.rules.specs.Settings.{Settings, queuePcp}
 use Rattle.rules.specs.Addresses.{Table}
-use Rattle.rules.specs.PortTests.{Test, isPassed, portsLeft}
+use Rattle.rules.specs.PortTests.{Test, portsLeft}
 use Rattle.rules.specs.Facts.{Packet, isBpdu, factsOf}
 use Rattle.rules.specs.ReasonTable.{reasonFor}
 use Rattle.rules.specs.Outcomes.{Frame, frameOf, outcomeBy, outcomeOf}
-use Rattle.rules.proofs.Choice.{on, onList, onOption, each-append, each-first, each-rest, distinct-sift}
+use Rattle.rules.proofs.Choice.{on, onOption, each-append, distinct-sift}
 use Rattle.rules.proofs.Tags.{decoded-are-tags}
 use Rattle.machine.specs.Waiting.{Waiting, waitsAt, stay, leave, send, join}
 use Rattle.machine.specs.Waiting as Waiting

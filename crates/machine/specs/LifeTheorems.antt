@@ -2,7 +2,6 @@
 -- such list. `proofs/Lives.antt` proves it. Assumes nothing: these are definitions.
 use Prim.Native.Nat.{ℕ, _≤_}
 use mathlib.Core.Path.{_≡_}
-use mathlib.Core.Logic.{_↔_}
 use mathlib.Core.List.{List, [], _∷_}
 use Rattle.rules.specs.Refusals.{memoryLength}
 use Rattle.machine.specs.State.{State, Call, refused, done}

@@ -3,7 +3,7 @@
 use Prim.Native.Nat.{ℕ, _≤_}
 use mathlib.Core.Path.{_≡_}
 use mathlib.Core.Bool.{true, false}
-use mathlib.Core.List.{List, [], _∷_}
+use mathlib.Core.List.{[], _∷_}
 use mathlib.Core.Option.{none}
 use Rattle.rules.specs.Settings.{Settings, Vlan, disabled, noOperation, isThere, vlanOf}
 use Rattle.rules.specs.Addresses.{key, setStatic}

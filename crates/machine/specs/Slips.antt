@@ -1,17 +1,16 @@
 -- The slips that are seen in class, each as its opposite, said of the call itself. `proofs/Slips.antt` proves it.
 -- Assumes nothing: these are definitions.
-use Prim.Native.Nat.{ℕ, _≤_}
+use Prim.Native.Nat.{ℕ}
 use mathlib.Core.Path.{_≡_}
 use mathlib.Core.Bool.{true, false}
 use mathlib.Core.List.{List, [], _∷_, _++_}
-use mathlib.Core.Option.{none, some}
+use mathlib.Core.Option.{none}
 use Rattle.rules.specs.Choice.{Each, among}
-use Rattle.rules.specs.Tags.{Header, Tag, tagsOf, destination, source}
+use Rattle.rules.specs.Tags.{Tag, tagsOf, destination, source}
 use Rattle.rules.specs.Operations.{outermost, push, swap}
 use Rattle.rules.specs.Settings.{vlanOf}
 use Rattle.rules.specs.Tables.{nowhere}
 use Rattle.rules.specs.Addresses.{Entry, key, found, find}
-use Rattle.rules.specs.Reasons.{noCandidate}
 use Rattle.rules.specs.PortTests.{passes}
 use Rattle.rules.specs.ReasonTable.{reasonFor}
 use Rattle.rules.specs.Settings as Settings
@@ -21,7 +20,7 @@ use Rattle.rules.specs.Requests.{FrameInRequest, TakeRequest}
 use Rattle.machine.specs.State.{State, Call, frameIn, take, done}
 use Rattle.machine.specs.Machine.{perform}
 use Rattle.machine.specs.History.{fresh, after}
-use Rattle.machine.specs.CallTheorems.{Allowed, factsNow, Joined, Serves, LeavesAs, Sends}
+use Rattle.machine.specs.CallTheorems.{Allowed, factsNow, Joined, Serves, Sends}
 use Rattle.rules.specs.Outcomes.{Frame}
 
 -- "VID 0 looked up as a VLAN." A frame whose tag has VID 0 is a frame of its port's default VLAN, whichever tag the

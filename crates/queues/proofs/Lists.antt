@@ -1,6 +1,6 @@
 -- The laws of the lists that are read from memory: a frame that joins is the last, one that leaves was the first, and the other 19 queues
 -- and all queues under other writes are as they were. Assumes nothing.
-use Prim.Native.Nat.{ℕ, zero, suc, _+_, _≤_, _<_}
+use Prim.Native.Nat.{ℕ, zero, suc, _≤_, _<_}
 use mathlib.Core.Path.{_≡_, refl, ap, _∙_}
 use mathlib.Core.Bool.{_&&_}
 use mathlib.Core.List.{List, [], _∷_, _++_}

@@ -43,7 +43,3 @@ module _ (n p q : ℕ) (l : List ℕ) where
   pub length-popped-at : (first : ℕ) → length (poppedAt p q first l) ≡ length l
   unfolding poppedAt
   length-popped-at first = on (eqb (youngestOf l p q) first) (λ e. rw e (simp length-set)) (λ e. rw e (simp length-set))
-
-  pub length-popped : length (popped n p q l) ≡ length l
-  unfolding popped
-  length-popped = length-popped-at (oldestCell n l p q)

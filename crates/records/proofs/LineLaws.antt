@@ -1,17 +1,16 @@
 -- Digits one at a time, how many there are, and text that follows text. Assumes nothing.
 use Prim.Native.Nat.{ℕ, zero, suc, _+_, _*_, _/_, _%_, _≤_, _<_}
-use mathlib.Core.Path.{_≡_, refl, sym, ap, _∙_}
+use mathlib.Core.Path.{_≡_, refl, ap, _∙_}
 use mathlib.Core.List.{List, [], _∷_, _++_, append-assoc}
 use native.Mathlib.Nat.{add-assoc}
 use native.Mathlib.Omega.{arith}
 use native.Mathlib.Decide.{decLe}
 use lib.Dec.{ltb}
 use lib.ListN.{length, set, length-append}
-use lib.Seq.{sets}
 use borrow.Author.Tests.{lt-ltb, le-ltb, eq-eqb, ne-eqb}
 use Rattle.rules.specs.Choice.{if_then_else_}
 use Rattle.slices.proofs.Runs.{sets-append}
-use Rattle.lent.specs.declared.Answer.{Answer}
+use Rattle.layout.specs.declared.answers.Answer.{Answer}
 use Rattle.records.specs.Lines.{digit, digits, decimal, space, newline, field, okText, refusedText, outcome, lineOf, written}
 
 -- ---- digits

@@ -5,7 +5,7 @@ use lib.Dec.{eqb, ltb}
 use lib.ListN.{length}
 use lib.Seq.{sets}
 use Rattle.rules.specs.Choice.{if_then_else_}
-use Rattle.lent.specs.declared.Answer.{Answer}
+use Rattle.layout.specs.declared.answers.Answer.{Answer}
 
 -- the ASCII code of a digit
 abbrev pub digit : ℕ → ℕ

@@ -1,5 +1,5 @@
 // The line of a record.
-use lent::Answer;
+use layout::answers::Answer;
 ghost use mathlib.Core.Path.{_≡_};
 ghost use Prim.Native.Nat.{_+_, _≤_};
 ghost use lib.ListN.{length};

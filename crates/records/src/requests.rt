@@ -2,69 +2,37 @@
 use crate::reading::byte_at;
 use crate::reading::kind_of;
 use crate::reading::little_endian;
-use lent::Answer;
-use lent::refused;
+use layout::answers::Answer;
+use layout::answers::refused;
+use layout::refusals::BAD_RECORD;
+use settings::call::AddressCall;
+use settings::call::Call;
+use settings::call::LinkCall;
+use settings::operation::OperationSettings;
+use settings::port::PortSettings;
+use settings::vlan::VlanSettings;
 use tags::reading::address_in_six;
 ghost use mathlib.Core.Path.{_≡_};
 ghost use Prim.Native.Nat.{_+_, _≤_};
 ghost use mathlib.Core.Bool.{true};
 ghost use lib.ListN.{length, drop};
 ghost use Rattle.rules.specs.Refusals.{badRecord};
-ghost use Rattle.lent.specs.Answers.{refusedBy};
+ghost use Rattle.layout.specs.Answers.{refusedBy};
 ghost use Rattle.records.specs.Requests.{operationAt, portAt, vlanAt, bodyFits, asked, requestOf};
-
-pub struct OperationNumbers {
-    pub kind: u32,
-    pub tag_type: u32,
-    pub vid_source: u32,
-    pub pcp_source: u32,
-    pub vid: u32,
-    pub pcp: u32,
-    pub dei: u32,
-}
-
-pub struct PortNumbers {
-    pub state: u32,
-    pub assignment: u32,
-    pub vid: u32,
-    pub pcp: u32,
-    pub dei: u32,
-    pub flags: u32,
-    pub operation: OperationNumbers,
-}
-
-pub struct VlanNumbers {
-    pub vid: u32,
-    pub members: u32,
-    pub gid: u32,
-    pub operation: OperationNumbers,
-}
 
 // The frame of a frame-in is `frame_of`.
 pub enum Request {
-    FrameIn(u32),
-    Take(u32),
-    Age,
-    Counter(u32, u32),
-    Port(u32, PortNumbers),
-    Vlan(VlanNumbers),
-    ClearVlan(u32),
-    Static { gid: u32, port: u32, address: u64 },
-    Remove { gid: u32, address: u64 },
-    Map { pcp: u32, queue: u32 },
-    QueueSwitch { port: u32, queue: u32, on: u32 },
-    Drain(u32),
-    Bpdu(u32),
+    Asked(Call),
     // Refusal 11.
     Bad,
 }
 
 // Kind, type, VID source, PCP source, VID(2), PCP, DEI.
-fn operation_at(bytes: &[u8], i: usize) -> OperationNumbers
+fn operation_at(bytes: &[u8], i: usize) -> OperationSettings
     requires { ⌜ i + 8 ≤ length (now bytes) ⌝ }
     ensures { λ r. ⌜ r ≡ operationAt (now (bytes .entry)) i ⌝ }
 {
-    OperationNumbers {
+    OperationSettings {
         kind: byte_at(bytes, i),
         tag_type: byte_at(bytes, i + 1),
         vid_source: byte_at(bytes, i + 2),
@@ -98,11 +66,11 @@ fn body_fits(kind: u32, size: usize) -> bool
 }
 
 // State, assignment, VID(2), PCP, DEI, flags, operation(8).
-fn port_at(bytes: &[u8], i: usize) -> PortNumbers
+fn port_at(bytes: &[u8], i: usize) -> PortSettings
     requires { ⌜ i + 15 ≤ length (now bytes) ⌝ }
     ensures { λ r. ⌜ r ≡ portAt (now (bytes .entry)) i ⌝ }
 {
-    PortNumbers {
+    PortSettings {
         state: byte_at(bytes, i),
         assignment: byte_at(bytes, i + 1),
         vid: little_endian(bytes, i + 2),
@@ -114,11 +82,11 @@ fn port_at(bytes: &[u8], i: usize) -> PortNumbers
 }
 
 // VID(2), members, GID, operation(8).
-fn vlan_at(bytes: &[u8], i: usize) -> VlanNumbers
+fn vlan_at(bytes: &[u8], i: usize) -> VlanSettings
     requires { ⌜ i + 12 ≤ length (now bytes) ⌝ }
     ensures { λ r. ⌜ r ≡ vlanAt (now (bytes .entry)) i ⌝ }
 {
-    VlanNumbers {
+    VlanSettings {
         vid: little_endian(bytes, i),
         members: byte_at(bytes, i + 2),
         gid: byte_at(bytes, i + 3),
@@ -132,33 +100,33 @@ fn ask(kind: u32, body: &[u8]) -> Request
     ensures { λ r. ⌜ r ≡ asked kind (now (body .entry)) ⌝ }
 {
     match kind {
-        1 => Request::FrameIn(byte_at(body, 0)),
-        2 => Request::Take(byte_at(body, 0)),
-        3 => Request::Age,
-        4 => Request::Counter(byte_at(body, 0), byte_at(body, 1)),
-        5 => Request::Port(byte_at(body, 0), port_at(body, 1)),
-        6 => Request::Vlan(vlan_at(body, 0)),
-        7 => Request::ClearVlan(little_endian(body, 0)),
-        8 => Request::Static {
+        1 => Request::Asked(Call::FrameIn(byte_at(body, 0))),
+        2 => Request::Asked(Call::Take(byte_at(body, 0))),
+        3 => Request::Asked(Call::Addresses(AddressCall::Age)),
+        4 => Request::Asked(Call::Links(LinkCall::Counter(byte_at(body, 0), byte_at(body, 1)))),
+        5 => Request::Asked(Call::Links(LinkCall::Port(byte_at(body, 0), port_at(body, 1)))),
+        6 => Request::Asked(Call::Links(LinkCall::Vlan(vlan_at(body, 0)))),
+        7 => Request::Asked(Call::Links(LinkCall::ClearVlan(little_endian(body, 0)))),
+        8 => Request::Asked(Call::Addresses(AddressCall::Static {
             gid: byte_at(body, 0),
             port: byte_at(body, 1),
             address: address_in_six(body, 2),
-        },
-        9 => Request::Remove {
+        })),
+        9 => Request::Asked(Call::Addresses(AddressCall::Remove {
             gid: byte_at(body, 0),
             address: address_in_six(body, 1),
-        },
-        10 => Request::Map {
+        })),
+        10 => Request::Asked(Call::Links(LinkCall::Map {
             pcp: byte_at(body, 0),
             queue: byte_at(body, 1),
-        },
-        11 => Request::QueueSwitch {
+        })),
+        11 => Request::Asked(Call::Links(LinkCall::QueueSwitch {
             port: byte_at(body, 0),
             queue: byte_at(body, 1),
             on: byte_at(body, 2),
-        },
-        12 => Request::Drain(byte_at(body, 0)),
-        13 => Request::Bpdu(byte_at(body, 0)),
+        })),
+        12 => Request::Asked(Call::Links(LinkCall::Drain(byte_at(body, 0)))),
+        13 => Request::Asked(Call::Links(LinkCall::Bpdu(byte_at(body, 0)))),
         _ => Request::Bad,
     }
 }
@@ -191,5 +159,5 @@ pub fn frame_of(bytes: &[u8]) -> &[u8]
 pub fn bad_record() -> Answer
     ensures { λ r. ⌜ r ≡ refusedBy badRecord ⌝ }
 {
-    refused(11)
+    refused(BAD_RECORD)
 }

@@ -1,16 +1,15 @@
 -- What a search of the address table gives after each change, and that a key has at most one entry. Assumes nothing.
 use Prim.Native.Nat.{ℕ, zero, suc, _+_}
 use mathlib.Core.Path.{_≡_, refl, sym, ap, _∙_, subst}
-use mathlib.Core.Logic.{_↔_}
-use mathlib.Core.Bool.{Bool, true, false, _||_, false≢true, true≢false}
+use mathlib.Core.Bool.{true, false, false≢true}
 use mathlib.Core.Option.{Option, none, some}
 use native.Mathlib.Omega.{arith}
-use Rattle.rules.specs.Tables.{put, Found, at, nowhere, findIn, emptyIn, placeBy, placeIn, putAt, setIn, removeFound, removeIn}
+use Rattle.rules.specs.Tables.{at, nowhere, findIn, placeBy, placeIn, putAt, setIn, removeFound, removeIn}
 use Rattle.rules.specs.Tables as Tables
 use Rattle.rules.specs.Addresses.{Entry, Table, addressKeys, find, emptyFor, withMark, LookUp, group, unknown, found, answered, lookUp, hitMarks, afterLookUp, Learning, stays, noPlace, takes, learningBy, learningOf, isNoPlace, learnedEntry, learnBy, learn, older, aged, goes, removed, staticEntry, setStatic, isFull, noPlaceFor, remove, Sound}
-use Rattle.rules.specs.AddressTheorems.{LearningTheorems, MarkingTheorems, AgeingTheorems, StaticTheorems, RemovalTheorems, AddressTheorems, one, entries, learnedAs}
+use Rattle.rules.specs.AddressTheorems.{AddressTheorems, one, entries, learnedAs}
 use Rattle.rules.proofs.Choice.{on, onOption}
-use Rattle.rules.proofs.Tables.{no-some, onFound, not-both, put-at, search-hit, search-miss, same-key-sound, set-sound, remove-sound, set-finds, set-leaves-others, set-without-place, remove-finds-none, remove-leaves-others}
+use Rattle.rules.proofs.Tables.{no-some, onFound, put-at, search-hit, search-miss, set-sound, remove-sound, set-finds, set-leaves-others, remove-finds-none, remove-leaves-others}
 use Rattle.rules.proofs.Tables as Laws
 
 pub onLookUp {ℓ} : {C : Type ℓ} (l : LookUp) → (l ≡ group → C) → (l ≡ unknown → C) → ((i : ℕ) (e : Entry) → l ≡ found i e → C) → C

@@ -1,20 +1,19 @@
 -- What the facts of a frame are, one by one. Assumes nothing.
-use Prim.Native.Nat.{ℕ, zero, suc, _<_}
+use Prim.Native.Nat.{ℕ, zero, suc}
 use mathlib.Core.Path.{_≡_, refl, sym, ap, subst, _∙_}
 use mathlib.Core.Logic.{_↔_}
 use mathlib.Core.Bool.{Bool, true, false, _&&_, not, false≢true, true≢false}
 use mathlib.Core.List.{List, [], _∷_, List·Memᴰ, List·Memᴰ·head, List·Memᴰ·tail}
-use native.Mathlib.Omega.{arith}
-use lib.Dec.{eqb, ltb}
-use lib.ListN.{length, getD}
+use lib.Dec.{eqb}
+use lib.ListN.{length}
 use borrow.Author.Tests.{eqb-true, eqb-false, eq-eqb, ne-eqb, ltb-true, lt-ltb, not-true}
 use Rattle.rules.specs.Choice.{if_then_else_, Each, nobody, also}
 use Rattle.rules.specs.Cells.{cells}
-use Rattle.rules.specs.Tags.{Header, Tag, tagsOf, destination, isGroup}
+use Rattle.rules.specs.Tags.{Header, Tag, tagsOf, destination}
 use Rattle.rules.specs.Operations.{headerAt}
 use Rattle.rules.specs.Settings.{Vlan, Settings, isThere, vlanOf, orDefault, assignedVid, queuePcp, stateFor}
-use Rattle.rules.specs.Tables.{at, nowhere}
-use Rattle.rules.specs.Addresses.{Entry, Table, LookUp, group, unknown, found, key, find, answered, lookUp}
+use Rattle.rules.specs.Tables.{at}
+use Rattle.rules.specs.Addresses.{Entry, Table, LookUp, group, found, key, find, answered, lookUp}
 use Rattle.rules.specs.PortTests.{isChosen}
 use Rattle.rules.specs.Facts.{Packet, isBpdu, factsOf}
 use Rattle.rules.specs.FactsTheorems.{facts, VidTheorems, VlanTheorems, QueueTheorems, LookUpTheorems, FactsTheorems}

@@ -1,6 +1,6 @@
 -- What a frame's facts come to. Assumes nothing.
-use mathlib.Core.Path.{_≡_, ap, ap₂, _∙_}
-use mathlib.Core.Bool.{Bool, true, false, _&&_}
+use mathlib.Core.Path.{_≡_, ap, ap₂}
+use mathlib.Core.Bool.{Bool, _&&_}
 use Rattle.rules.specs.Choice.{if_then_else_}
 use Rattle.rules.specs.Addresses.{Table, afterLookUp, isNoPlace, learningOf, learnBy, learn}
 use Rattle.rules.specs.Facts.{Facts}

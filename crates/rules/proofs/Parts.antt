@@ -2,17 +2,17 @@
 use Prim.Native.Nat.{ℕ}
 use mathlib.Core.Path.{_≡_, refl, sym, ap, ap₂, _∙_}
 use mathlib.Core.Logic.{_↔_}
-use mathlib.Core.Bool.{Bool, true, false, _&&_, not, false≢true, true≢false}
+use mathlib.Core.Bool.{Bool, true, false, _&&_, not, false≢true}
 use mathlib.Core.List.{List, [], _∷_, _++_, append-nil}
 use mathlib.Core.Option.{Option, none, some}
 use native.Mathlib.Omega.{arith}
-use lib.Dec.{eqb, leb}
+use lib.Dec.{leb}
 use borrow.Author.Tests.{not-true}
 use Rattle.rules.specs.Choice.{sift, isNothing}
 use Rattle.rules.specs.Lines.{Line, first}
 use Rattle.rules.specs.Reasons.{Reason}
 use Rattle.rules.specs.Facts.{Facts}
-use Rattle.rules.specs.ReasonTable.{Part, reading, entering, choosing, queueing, partNumber, reasonTable, linesIn, rowsOf, isAsked, reasonFor, isPast}
+use Rattle.rules.specs.ReasonTable.{Part, Row, reading, entering, choosing, queueing, partNumber, reasonTable, linesIn, rowsOf, isAsked, reasonFor, isPast}
 use Rattle.rules.specs.Outcomes.{countsTests, learns}
 use Rattle.rules.specs.ArrivalTheorems.{PastEntering, PastChoosing}
 use Rattle.rules.proofs.Choice.{on, onOption, and-left, and-right}
@@ -24,17 +24,45 @@ unfoldable pub cut : Bool → List (Line Reason) → List (Line Reason)
 cut true ls = ls
 cut false ls = []
 
-split : (test : Part → Bool) (f : Facts) → linesIn test (reasonTable f)
-    ≡ cut (test reading) (rowsOf reading f) ++ (cut (test entering) (rowsOf entering f) ++ (cut (test choosing) (rowsOf choosing f) ++ cut (test queueing) (rowsOf queueing f)))
-unfolding linesIn rowsOf reasonTable sift partNumber cut
-split test f =
-    on (test reading)
-    (λ a. rw a (on (test entering)
-    (λ b. rw b (on (test choosing) (λ c. rw c (on (test queueing) (λ d. rw d) (λ d. rw d))) (λ c. rw c (on (test queueing) (λ d. rw d) (λ d. rw d)))))
-    (λ b. rw b (on (test choosing) (λ c. rw c (on (test queueing) (λ d. rw d) (λ d. rw d))) (λ c. rw c (on (test queueing) (λ d. rw d) (λ d. rw d)))))))
-    (λ a. rw a (on (test entering)
-    (λ b. rw b (on (test choosing) (λ c. rw c (on (test queueing) (λ d. rw d) (λ d. rw d))) (λ c. rw c (on (test queueing) (λ d. rw d) (λ d. rw d)))))
-    (λ b. rw b (on (test choosing) (λ c. rw c (on (test queueing) (λ d. rw d) (λ d. rw d))) (λ c. rw c (on (test queueing) (λ d. rw d) (λ d. rw d)))))))
+-- the rows of one part with these lines
+unfoldable tagged : Part → List (Line Reason) → List Row
+tagged part [] = []
+tagged part (l ∷ ls) = record { part = part; line = l } ∷ tagged part ls
+
+by-parts : (f : Facts) → reasonTable f
+    ≡ tagged reading (rowsOf reading f) ++ (tagged entering (rowsOf entering f) ++ (tagged choosing (rowsOf choosing f) ++ tagged queueing (rowsOf queueing f)))
+unfolding reasonTable rowsOf linesIn sift partNumber tagged
+by-parts f = refl
+
+module _ (test : Part → Bool) where
+  lines-tagged : (part : Part) (ls : List (Line Reason)) → linesIn test (tagged part ls) ≡ cut (test part) ls
+  unfolding linesIn sift tagged cut
+  lines-tagged part [] = on (test part) (λ e. rw e) (λ e. rw e)
+  lines-tagged part (l ∷ ls) =
+      let rest : linesIn test (tagged part ls) ≡ cut (test part) ls = lines-tagged part ls in
+      on (test part)
+      (λ e. rw e (ap (λ (ms : List (Line Reason)). l ∷ ms) (rw e at rest)))
+      (λ e. rw e (rw e at rest))
+
+  lines-append : (rows more : List Row) → linesIn test (rows ++ more) ≡ linesIn test rows ++ linesIn test more
+  unfolding linesIn sift
+  lines-append [] more = refl
+  lines-append (r ∷ rows) more =
+      on (test (r .part))
+      (λ e. rw e (ap (λ (ms : List (Line Reason)). r .line ∷ ms) (lines-append rows more)))
+      (λ e. rw e (lines-append rows more))
+
+  both : (part : Part) (ls : List (Line Reason)) (more : List Row) → linesIn test (tagged part ls ++ more) ≡ cut (test part) ls ++ linesIn test more
+  both part ls more = lines-append (tagged part ls) more ∙ ap (λ (ms : List (Line Reason)). ms ++ linesIn test more) (lines-tagged part ls)
+
+  split : (f : Facts) → linesIn test (reasonTable f)
+      ≡ cut (test reading) (rowsOf reading f) ++ (cut (test entering) (rowsOf entering f) ++ (cut (test choosing) (rowsOf choosing f) ++ cut (test queueing) (rowsOf queueing f)))
+  split f =
+      rw (by-parts f) (both reading _ _
+      ∙ ap (λ (ls : List (Line Reason)). cut (test reading) (rowsOf reading f) ++ ls)
+      (both entering _ _
+      ∙ ap (λ (ls : List (Line Reason)). cut (test entering) (rowsOf entering f) ++ ls)
+      (both choosing _ _ ∙ ap (λ (ls : List (Line Reason)). cut (test choosing) (rowsOf choosing f) ++ ls) (lines-tagged queueing _))))
 
 module _ (f : Facts) where
   asked : linesIn (isAsked (f .bpdu)) (reasonTable f)

@@ -1,8 +1,7 @@
 -- Each port's test, said by what takes it out. Assumes nothing.
 use Prim.Native.Nat.{ℕ, zero, suc, _≤_}
 use mathlib.Core.Path.{_≡_, refl, sym, ap, _∙_}
-use mathlib.Core.Logic.{_↔_}
-use mathlib.Core.Bool.{Bool, true, false, _||_, not, false≢true, true≢false}
+use mathlib.Core.Bool.{Bool, true, false, not, false≢true, true≢false}
 use mathlib.Core.List.{List, [], _∷_}
 use native.Mathlib.Omega.{arith}
 use lib.Dec.{eqb}
@@ -11,7 +10,7 @@ use Rattle.rules.specs.Choice.{if_then_else_, sift, among}
 use Rattle.rules.specs.Numbers.{allPorts}
 use Rattle.rules.specs.Settings.{PortState, disabled, blocking, listening, learning, forwarding, Settings, Vlan, departs, stateFor}
 use Rattle.rules.specs.Addresses.{Table}
-use Rattle.rules.specs.PortTests.{Test, passes, notMember, arrival, elsewhere, state, queueOff, isCandidate, isPassed, anyCandidate, portsLeft, portTest, bpduTest}
+use Rattle.rules.specs.PortTests.{Test, passes, notMember, arrival, elsewhere, state, queueOff, isPassed, portsLeft, portTest, bpduTest}
 use Rattle.rules.specs.Facts.{Packet, factsOf}
 use Rattle.rules.specs.ArrivalTheorems.{DisabledOrForwarding, is-disabled, is-forwarding, Barring, is-blocking, is-listening, is-learning, Candidate, TestTheorems, BpduTestTheorems, ExactlyPassing}
 use Rattle.rules.proofs.Choice.{on}

@@ -3,7 +3,7 @@ use Prim.Native.Nat.{ℕ, _^_, _≤_, _<_}
 use mathlib.Core.Path.{_≡_}
 use mathlib.Core.Logic.{_↔_}
 use mathlib.Core.Bool.{Bool, true, _&&_}
-use lib.Dec.{leb, ltb}
+use lib.Dec.{leb}
 use borrow.Author.Tests.{leb-true, le-leb, ltb-true, lt-ltb}
 use Rattle.rules.specs.Arguments.{isVid, isAddress, OperationNumbers, operationInRange, PortNumbers, portInRange, VlanNumbers, vlanInRange}
 use Rattle.rules.specs.RangeTheorems.{OperationFits, PortFits, VlanFits, RangeTheorems}

@@ -8,7 +8,7 @@ use mathlib.Core.List.{List, [], _∷_, List·Memᴰ}
 use lib.ListN.{length}
 use Rattle.rules.specs.Choice.{Each}
 use Rattle.rules.specs.Cells.{cells}
-use Rattle.rules.specs.Tags.{Header, Tag, tagsOf, destination, source, isGroup}
+use Rattle.rules.specs.Tags.{Tag, tagsOf, destination, source, isGroup}
 use Rattle.rules.specs.Settings.{Vlan, Settings}
 use Rattle.rules.specs.Tables.{at, nowhere}
 use Rattle.rules.specs.Addresses.{Entry, Table, group, unknown, found, key, find}

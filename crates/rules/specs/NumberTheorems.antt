@@ -1,9 +1,8 @@
 -- The numbers that stand for reasons, counters, states, kinds, types and sources. `proofs/Numbers.antt` proves it.
 -- Assumes nothing: these are definitions.
-use Prim.Native.Nat.{ℕ}
 use mathlib.Core.Path.{_≡_}
 use mathlib.Core.Bool.{true, false}
-use mathlib.Core.List.{List, [], _∷_, map}
+use mathlib.Core.List.{[], _∷_, map}
 use Rattle.rules.specs.Numbers.{placeCount, firstSpare}
 use Rattle.rules.specs.Operations.{outermost, second, given, pop, push, swap, popAll}
 use Rattle.rules.specs.Operations as Operations

@@ -1,1 +1,2 @@
 pub mod WordEnds
+pub mod VlanEnds

@@ -5,8 +5,8 @@ use mathlib.Core.Bool.{Bool, true, false, not}
 use mathlib.Core.List.{List, [], _∷_}
 use Rattle.rules.specs.Lines.{first}
 use Rattle.rules.specs.Refusals.{memoryDamaged}
-use Rattle.lent.specs.declared.Answer.{Answer}
-use Rattle.lent.specs.Answers.{refusedBy, doneWith, damageLine}
+use Rattle.layout.specs.declared.answers.Answer.{Answer}
+use Rattle.layout.specs.Answers.{refusedBy, doneWith, damageLine}
 use Rattle.setting_calls.specs.Calls.{metBy}
 
 module _ (l new : List ℕ) (good : Bool) {answer : Answer} where

@@ -3,19 +3,19 @@
 -- A counter's meets no field; the others meet the packed word that they write a part of.
 -- Assumes nothing: these are definitions.
 use Prim.Native.Nat.{ℕ}
-use mathlib.Core.Bool.{Bool, not}
+use mathlib.Core.Bool.{not}
 use mathlib.Core.List.{List, [], _∷_, _++_}
 use lib.ListN.{getD, set}
 use Rattle.rules.specs.Lines.{Line, first}
 use Rattle.rules.specs.Refusals.{Refusal, Lines, counterLines, portLines, mapLines, queueSwitchLines, bpduLines}
 use Rattle.rules.specs.Arguments.{PortNumbers, flag}
 use Rattle.layout.specs.Places.{mapWord, switchesWord, counterWord}
-use Rattle.lent.specs.declared.Answer.{Answer}
-use Rattle.lent.specs.Lengths.{linksFit}
-use Rattle.lent.specs.Answers.{doneWith, lengthLine, damageLine, orRefused}
-use Rattle.packed.specs.States.{isStatesWord}
-use Rattle.packed.specs.Maps.{isMapWord, withQueue, withBpdu}
-use Rattle.packed.specs.Switches.{isSwitchesWord, withSwitch}
+use Rattle.layout.specs.declared.answers.Answer.{Answer}
+use Rattle.layout.specs.Lengths.{linksFit}
+use Rattle.layout.specs.Answers.{doneWith, lengthLine, damageLine, orRefused}
+use Rattle.settings.specs.States.{isStatesWord}
+use Rattle.settings.specs.Maps.{isMapWord, withQueue, withBpdu}
+use Rattle.settings.specs.Switches.{isSwitchesWord, withSwitch}
 use Rattle.settings.specs.Records.{statesAt, portWritten}
 use Rattle.settings.specs.SettingsOf.{mapAt, switchesAt}
 

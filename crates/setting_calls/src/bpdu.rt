@@ -1,11 +1,14 @@
 // The call on BPDU handling.
 use layout::MAP;
-use lent::Answer;
-use lent::done;
-use lent::links_fit;
-use lent::refused;
-use packed::map::is_map_word;
-use packed::map::with_bpdu;
+use layout::answers::Answer;
+use layout::answers::done;
+use layout::answers::refused;
+use layout::lengths::links_fit;
+use layout::refusals::MEMORY_DAMAGED;
+use layout::refusals::MEMORY_LENGTH;
+use layout::refusals::OUT_OF_RANGE;
+use settings::map::is_map_word;
+use settings::map::with_bpdu;
 ghost use mathlib.Core.Path.{_≡_};
 ghost use Prim.Native.Nat.{_≤_};
 ghost use lib.ListN.{length};
@@ -21,7 +24,7 @@ fn switch_bpdu(links: &mut [u32], on: u32) -> Answer
         links[MAP] = with_bpdu(word, on == 1);
         return done(0, 0);
     }
-    refused(10)
+    refused(MEMORY_DAMAGED)
 }
 
 pub fn bpdu(links: &mut [u32], on: u32) -> Answer
@@ -29,9 +32,9 @@ pub fn bpdu(links: &mut [u32], on: u32) -> Answer
 {
     if links_fit(links) {
         if on > 1 {
-            return refused(3);
+            return refused(OUT_OF_RANGE);
         }
         return switch_bpdu(links, on);
     }
-    refused(1)
+    refused(MEMORY_LENGTH)
 }

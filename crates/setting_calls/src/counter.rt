@@ -1,8 +1,13 @@
 // The call on a counter.
-use lent::Answer;
-use lent::done;
-use lent::links_fit;
-use lent::refused;
+use layout::answers::Answer;
+use layout::answers::done;
+use layout::answers::refused;
+use layout::lengths::links_fit;
+use layout::numbers::LAST_COUNTER;
+use layout::numbers::LAST_PORT;
+use layout::refusals::MEMORY_LENGTH;
+use layout::refusals::OUT_OF_RANGE;
+use layout::refusals::PORT_ABOVE_FOUR;
 ghost use mathlib.Core.Path.{_≡_};
 ghost use Rattle.setting_calls.specs.Calls.{counterCall};
 
@@ -11,14 +16,14 @@ pub fn counter(links: &[u32], port: u32, number: u32) -> Answer
     ensures { λ r. ⌜ (r, now (links .exit)) ≡ counterCall (now (links .entry)) port number ⌝ }
 {
     if links_fit(links) {
-        if port > 4 {
-            return refused(2);
+        if port > LAST_PORT {
+            return refused(PORT_ABOVE_FOUR);
         }
-        if number > 20 {
-            return refused(3);
+        if number > LAST_COUNTER {
+            return refused(OUT_OF_RANGE);
         }
-        let value = words::counter::counter(links, port as usize, number as usize);
+        let value = layout::counter::counter(links, port as usize, number as usize);
         return done(value, 0);
     }
-    refused(1)
+    refused(MEMORY_LENGTH)
 }

@@ -1,14 +1,21 @@
 // The calls on the queue map and the queue switches.
 use layout::MAP;
 use layout::SWITCHES;
-use lent::Answer;
-use lent::done;
-use lent::links_fit;
-use lent::refused;
-use packed::map::is_map_word;
-use packed::map::with_queue;
-use packed::switches::is_switches_word;
-use packed::switches::with_switch;
+use layout::answers::Answer;
+use layout::answers::done;
+use layout::answers::refused;
+use layout::lengths::links_fit;
+use layout::numbers::LAST_PCP;
+use layout::numbers::LAST_PORT;
+use layout::numbers::LAST_QUEUE;
+use layout::refusals::MEMORY_DAMAGED;
+use layout::refusals::MEMORY_LENGTH;
+use layout::refusals::OUT_OF_RANGE;
+use layout::refusals::PORT_ABOVE_FOUR;
+use settings::map::is_map_word;
+use settings::map::with_queue;
+use settings::switches::is_switches_word;
+use settings::switches::with_switch;
 ghost use mathlib.Core.Path.{_≡_};
 ghost use Prim.Native.Nat.{_<_, _≤_};
 ghost use lib.ListN.{length};
@@ -24,7 +31,7 @@ fn place_queue(links: &mut [u32], pcp: u32, queue: u32) -> Answer
         links[MAP] = with_queue(word, pcp, queue);
         return done(0, 0);
     }
-    refused(10)
+    refused(MEMORY_DAMAGED)
 }
 
 // The queue of a PCP.
@@ -32,15 +39,15 @@ pub fn map(links: &mut [u32], pcp: u32, queue: u32) -> Answer
     ensures { λ r. ⌜ (r, now (links .exit)) ≡ mapCall (now (links .entry)) pcp queue ⌝ }
 {
     if links_fit(links) {
-        if pcp > 7 {
-            return refused(3);
+        if pcp > LAST_PCP {
+            return refused(OUT_OF_RANGE);
         }
-        if queue > 3 {
-            return refused(3);
+        if queue > LAST_QUEUE {
+            return refused(OUT_OF_RANGE);
         }
         return place_queue(links, pcp, queue);
     }
-    refused(1)
+    refused(MEMORY_LENGTH)
 }
 
 fn switch_queue(links: &mut [u32], port: u32, queue: u32, on: u32) -> Answer
@@ -52,23 +59,23 @@ fn switch_queue(links: &mut [u32], port: u32, queue: u32, on: u32) -> Answer
         links[SWITCHES] = with_switch(word, port, queue, on == 1);
         return done(0, 0);
     }
-    refused(10)
+    refused(MEMORY_DAMAGED)
 }
 
 pub fn queue_switch(links: &mut [u32], port: u32, queue: u32, on: u32) -> Answer
     ensures { λ r. ⌜ (r, now (links .exit)) ≡ queueSwitchCall (now (links .entry)) port queue on ⌝ }
 {
     if links_fit(links) {
-        if port > 4 {
-            return refused(2);
+        if port > LAST_PORT {
+            return refused(PORT_ABOVE_FOUR);
         }
-        if queue > 3 {
-            return refused(3);
+        if queue > LAST_QUEUE {
+            return refused(OUT_OF_RANGE);
         }
         if on > 1 {
-            return refused(3);
+            return refused(OUT_OF_RANGE);
         }
         return switch_queue(links, port, queue, on);
     }
-    refused(1)
+    refused(MEMORY_LENGTH)
 }

@@ -8,7 +8,7 @@ use lib.Seq.{sets, getD-set-same, getD-set-other}
 use Rattle.slices.proofs.Runs.{getD-sets-after}
 use Rattle.rules.specs.Arguments.{PortNumbers}
 use Rattle.layout.specs.Places.{fixedWords, portRecord, counterWord, portWord, portOperationWord}
-pub use Rattle.settings.specs.Counters.{counterAt}
+pub use Rattle.layout.specs.Counters.{counterAt}
 use Rattle.settings.specs.Records.{portWritten}
 use Rattle.settings.proofs.RecordLaws.{port-keeps}
 use Rattle.settings.proofs.SettingsAlike.{SettingWords}

@@ -10,7 +10,7 @@ use lib.Dec.{eqb, leb}
 use Rattle.rules.proofs.Choice.{on}
 use Rattle.rules.specs.Settings.{isThere, vlanOf}
 use Rattle.rules.specs.Arguments.{vlanEntry}
-use Rattle.packed.specs.Ports.{isVidWord, vlanIn}
+use Rattle.settings.specs.Ports.{isVidWord, vlanIn}
 use Rattle.settings.specs.Records.{vlanAt}
 use Rattle.settings.specs.Table.{vlanCount, entryAt, vidAt, findFrom, foundVlan}
 use Rattle.settings.specs.SettingsOf.{vlansFrom, vlansOf}

@@ -8,3 +8,12 @@ pub mod SettingsAlike
 pub mod SettingsLaws
 pub mod TableLaws
 pub mod TableSteps
+pub mod BitLaws
+pub mod RangeLaws
+pub mod OperationLaws
+pub mod PortLaws
+pub mod StateLaws
+pub mod SwitchLaws
+pub mod MapLaws
+pub mod FreshLaws
+pub mod SettingLaws

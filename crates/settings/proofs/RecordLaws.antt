@@ -1,7 +1,7 @@
 -- A port and a VLAN entry written are read back, the other words are kept, and alike words say the same.
 -- Assumes nothing.
 use Prim.Native.Nat.{ℕ, suc, _+_, _<_, _≤_}
-use mathlib.Core.Path.{_≡_, refl, sym, _∙_}
+use mathlib.Core.Path.{_≡_, _∙_}
 use mathlib.Core.Bool.{true}
 use mathlib.Core.List.{List}
 use native.Mathlib.Omega.{arith}
@@ -10,10 +10,10 @@ use lib.Seq.{sets, length-sets, getD-set-same, getD-set-other}
 use Rattle.slices.proofs.Runs.{getD-sets-before, getD-sets-inside}
 use Rattle.rules.specs.Arguments.{PortNumbers, portInRange, VlanNumbers, vlanInRange}
 use Rattle.layout.specs.Places.{fixedWords, statesWord, portWord, portOperationWord, vlanWord, vlanOperationWord}
-use Rattle.packed.specs.Operations.{operationWord}
-use Rattle.packed.specs.Ports as Packed
-use Rattle.packed.specs.States.{withState}
-use Rattle.packed.proofs.SettingLaws.{port-words-back, other-port-kept, vlan-words-back}
+use Rattle.settings.specs.Operations.{operationWord}
+use Rattle.settings.specs.Ports as Packed
+use Rattle.settings.specs.States.{withState}
+use Rattle.settings.proofs.SettingLaws.{port-words-back, other-port-kept, vlan-words-back}
 use Rattle.settings.specs.Records.{statesAt, portAt, vlanAt, portWords, vlanWords, portWritten}
 
 -- ---- alike words

@@ -7,9 +7,9 @@ use lib.ListN.{set}
 use lib.Seq.{sets}
 use Rattle.rules.specs.Arguments.{PortNumbers, VlanNumbers}
 use Rattle.layout.specs.Places.{statesWord, portWord, portOperationWord, vlanWord, vlanOperationWord}
-use Rattle.packed.specs.Operations.{operationWord}
-use Rattle.packed.specs.Ports as Packed
-use Rattle.packed.specs.States.{withState}
+use Rattle.settings.specs.Operations.{operationWord}
+use Rattle.settings.specs.Ports as Packed
+use Rattle.settings.specs.States.{withState}
 use Rattle.settings.specs.Records.{statesAt, vlanWords, portWritten}
 
 pub port-run :

@@ -3,7 +3,7 @@ use Prim.Native.Nat.{ℕ, _+_, _<_, _≤_}
 use mathlib.Core.Path.{_≡_}
 use mathlib.Core.List.{List}
 use native.Mathlib.Omega.{arith}
-use lib.ListN.{length, getD}
+use lib.ListN.{length}
 use lib.Seq.{sets}
 use Rattle.slices.proofs.Runs.{getD-sets-before, getD-sets-after}
 use Rattle.rules.specs.Arguments.{PortNumbers}
@@ -14,7 +14,7 @@ use Rattle.layout.proofs.Stores.{counter-elsewhere}
 use Rattle.settings.specs.Records.{portWritten}
 use Rattle.settings.proofs.RecordLaws.{port-keeps}
 use Rattle.settings.proofs.SettingsAlike.{SettingWords}
-use Rattle.settings.specs.Counters.{counterAt}
+use Rattle.layout.specs.Counters.{counterAt}
 
 -- what a write of cells or queues leaves: the settings and the counters
 module _ {l m : List ℕ} (same : SettingsSame l m) where

@@ -75,9 +75,6 @@ pub record SettingWords (l m : List ℕ) : Type 0 where
   pub operation : (p : ℕ) → p < 5 → getD m (portOperationWord p) 0 ≡ getD l (portOperationWord p) 0
 
 module _ {l m : List ℕ} (same : SettingWords l m) where
-  pub port-same : (p : ℕ) → p < 5 → portAt m p ≡ portAt l p
-  port-same p h = port-alike l m p (same .word statesWord (omega arith) (λ e. omega arith) (λ e. omega arith)) (same .own p h) (same .operation p h)
-
   pub vlan-same : (e : ℕ) → e < 16 → vlanAt m e ≡ vlanAt l e
   vlan-same e h =
       vlan-alike l m e e

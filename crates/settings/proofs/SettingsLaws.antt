@@ -1,6 +1,6 @@
 -- What a write makes of the settings: the one thing that it sets is changed, and the others are kept. Assumes nothing.
 use Prim.Native.Nat.{ℕ, _+_, _-_, _<_, _≤_}
-use mathlib.Core.Path.{_≡_, refl, sym, ap, _∙_, fun-ext}
+use mathlib.Core.Path.{_≡_, sym, ap, _∙_, fun-ext}
 use mathlib.Core.Bool.{Bool, true}
 use mathlib.Core.List.{List, [], _∷_, _++_}
 use native.Mathlib.Decide.{decLt}
@@ -13,11 +13,11 @@ use Rattle.rules.specs.Choice.{changed}
 use Rattle.rules.specs.Settings.{Vlan, Settings}
 use Rattle.rules.specs.Arguments.{PortNumbers, portInRange, VlanNumbers, vlanInRange, portOf, vlanEntry}
 use Rattle.layout.specs.Places.{fixedWords, mapWord, switchesWord, vlanCountWord, statesWord, portRecord, portWord, portOperationWord, vlanWord, vlanOperationWord}
-use Rattle.packed.specs.Maps.{queueIn, bpduIn, withQueue, withBpdu}
-use Rattle.packed.specs.Switches.{switchIn, withSwitch}
-use Rattle.packed.proofs.MapLaws.{queue-set, queue-kept, queue-keeps-bpdu, bpdu-set, bpdu-keeps-queue}
-use Rattle.packed.proofs.SwitchLaws.{switch-set, switch-kept}
-use Rattle.settings.specs.Records.{statesAt, portAt, vlanAt, portWritten, vlanWords}
+use Rattle.settings.specs.Maps.{bpduIn, withQueue, withBpdu}
+use Rattle.settings.specs.Switches.{withSwitch}
+use Rattle.settings.proofs.MapLaws.{queue-set, queue-kept, queue-keeps-bpdu, bpdu-set, bpdu-keeps-queue}
+use Rattle.settings.proofs.SwitchLaws.{switch-set, switch-kept}
+use Rattle.settings.specs.Records.{portWritten, vlanWords}
 use Rattle.settings.proofs.RecordLaws.{vlan-alike, port-keeps, port-read-back, port-elsewhere}
 use Rattle.settings.specs.Table.{vlanCount, laterWords, addedVlan, clearedVlan}
 use Rattle.settings.proofs.TableLaws.{vlans-replaced, vlans-added, vlans-cleared, run-length}

@@ -9,7 +9,7 @@ use lib.ListN.{length, getD, set, take, drop, replicate, length-set, length-take
 use lib.Seq.{sets, drop-cons, drop-set-lt}
 use Rattle.slices.proofs.Runs.{sets-append}
 use Rattle.layout.specs.Places.{fixedWords, vlanWord, vlanCountWord}
-use Rattle.packed.specs.Ports.{isVidWord}
+use Rattle.settings.specs.Ports.{isVidWord}
 use Rattle.settings.specs.Table.{vlanCount, entryAt, vidAt, findFrom, foundVlan, laterWords, clearedVlan}
 use Rattle.settings.specs.declared.table.Found.the-variants.{At, Nowhere, Damaged}
 

@@ -1,4 +1,13 @@
 pub mod Records
-pub mod Counters
 pub mod Table
 pub mod SettingsOf
+pub mod Bits
+pub mod Ranges
+pub mod Operations
+pub mod Ports
+pub mod States
+pub mod Switches
+pub mod Maps
+pub mod Fresh
+pub mod Settings
+pub mod Entries

@@ -6,10 +6,10 @@ use lib.ListN.{getD, set}
 use lib.Seq.{sets}
 use Rattle.rules.specs.Arguments.{PortNumbers, VlanNumbers}
 use Rattle.layout.specs.Places.{statesWord, portWord, portOperationWord, vlanWord, vlanOperationWord}
-use Rattle.packed.specs.Operations.{operationWord}
-use Rattle.packed.specs.Ports as Packed
-use Rattle.packed.specs.States.{withState}
-use Rattle.packed.specs.Settings.{portOfWords, vlanOfWords}
+use Rattle.settings.specs.Operations.{operationWord}
+use Rattle.settings.specs.Ports as Packed
+use Rattle.settings.specs.States.{withState}
+use Rattle.settings.specs.Settings.{portOfWords, vlanOfWords}
 
 -- ---- what stands in link memory
 

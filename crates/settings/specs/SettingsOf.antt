@@ -8,8 +8,8 @@ use Rattle.rules.specs.Choice.{if_then_else_}
 use Rattle.rules.specs.Settings.{Port, Vlan, Settings}
 use Rattle.rules.specs.Arguments.{OperationNumbers, PortNumbers, VlanNumbers, portOf, vlanEntry}
 use Rattle.layout.specs.Places.{mapWord, switchesWord}
-use Rattle.packed.specs.Maps.{queueIn, bpduIn}
-use Rattle.packed.specs.Switches.{switchIn}
+use Rattle.settings.specs.Maps.{queueIn, bpduIn}
+use Rattle.settings.specs.Switches.{switchIn}
 use Rattle.settings.specs.Records.{portAt, vlanAt}
 use Rattle.settings.specs.Table.{vlanCount}
 

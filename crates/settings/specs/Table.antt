@@ -8,7 +8,7 @@ use lib.Seq.{sets}
 use Rattle.rules.specs.Choice.{if_then_else_}
 use Rattle.rules.specs.Arguments.{VlanNumbers}
 use Rattle.layout.specs.Places.{vlanCountWord, vlanWord}
-use Rattle.packed.specs.Ports.{isVidWord, vidIn}
+use Rattle.settings.specs.Ports.{isVidWord, vidIn}
 use Rattle.settings.specs.Records.{vlanWords}
 use Rattle.settings.specs.declared.table.Found.{Found}
 use Rattle.settings.specs.declared.table.Found.the-variants.{At, Nowhere, Damaged}

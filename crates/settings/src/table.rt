@@ -1,19 +1,18 @@
 // The VLAN table: entries 0 to (VLANs in use) - 1.
-use crate::vlan::write_vlan;
+use crate::port::is_vid_word;
+use crate::port::vid_in;
+use crate::vlan::VlanSettings;
+use crate::vlan_words::write_vlan;
 use layout::VLAN;
 use layout::VLAN_COUNT;
 use layout::VLAN_STRIDE;
-use packed::port::is_vid_word;
-use packed::port::vid_in;
-use packed::vlan::VlanSettings;
 ghost use mathlib.Core.Path.{_≡_};
-ghost use mathlib.Core.List.{_++_};
 ghost use Prim.Native.Nat.{_+_, _-_, _<_, _≤_};
-ghost use lib.ListN.{length, getD, take, drop, replicate};
+ghost use lib.ListN.{length, getD, take, drop};
 ghost use lib.Seq.{sets};
 ghost use Rattle.layout.specs.Places.{fixedWords, vlanCountWord};
-ghost use Rattle.packed.specs.Ranges.{VlanRange};
-ghost use Rattle.packed.specs.Ports.{vlanIs};
+ghost use Rattle.settings.specs.Ranges.{VlanRange};
+ghost use Rattle.settings.specs.Ports.{vlanIs};
 ghost use Rattle.settings.specs.Table.{foundVlan, addedVlan, clearedVlan};
 
 pub enum Found {

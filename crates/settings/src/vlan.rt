@@ -1,23 +1,54 @@
-// A VLAN entry in link memory: its own word and its operation's.
-use layout::VLAN;
-use layout::VLAN_OPERATION;
-use layout::VLAN_STRIDE;
-use packed::operation::pack_operation;
-use packed::vlan::VlanSettings;
-use packed::vlan::pack_vlan;
+// A VLAN but for its operation in one word.
+use crate::operation::OperationSettings;
+use crate::operation::operation_in_range;
+use layout::numbers::EVERY_PORT;
+use layout::numbers::LAST_GID;
+use layout::numbers::LAST_VID;
 ghost use mathlib.Core.Path.{_≡_};
-ghost use Prim.Native.Nat.{_<_, _≤_};
-ghost use lib.ListN.{length};
-ghost use lib.Seq.{sets};
-ghost use Rattle.layout.specs.Places.{fixedWords, vlanWord};
-ghost use Rattle.packed.specs.Ranges.{VlanRange};
-ghost use Rattle.packed.specs.Ports.{vlanIs};
-ghost use Rattle.settings.specs.Records.{vlanWords};
+ghost use Rattle.rules.specs.Arguments.{vlanInRange};
+ghost use Rattle.settings.specs.Ranges.{VlanRange};
+ghost use Rattle.settings.specs.Ports.{vlanIs, vlanWord};
+ghost use Rattle.settings.specs.Settings.{vlanOfWords};
+ghost use Rattle.settings.specs.Entries.{entryIs};
 
-pub fn write_vlan(links: &mut [u32], entry: usize, settings: VlanSettings)
-    requires { ⌜ (entry < 16) × (fixedWords ≤ length (now links)) × VlanRange (vlanIs settings) ⌝ }
-    ensures { λ _. ⌜ now (links .exit) ≡ sets (now (links .entry)) (vlanWord entry) (vlanWords (vlanIs settings)) ⌝ }
+pub struct VlanSettings {
+    pub vid: u32,
+    pub members: u32,
+    pub gid: u32,
+    pub operation: OperationSettings,
+}
+
+pub fn vlan_in_range(vlan: VlanSettings) -> bool
+    ensures { λ r. ⌜ r ≡ vlanInRange (vlanIs vlan) ⌝ }
 {
-    links[VLAN + VLAN_STRIDE * entry] = pack_vlan(settings);
-    links[VLAN_OPERATION + VLAN_STRIDE * entry] = pack_operation(settings.operation);
+    ((1 <= vlan.vid) & (vlan.vid <= LAST_VID))
+        & (vlan.members <= EVERY_PORT)
+        & (vlan.gid <= LAST_GID)
+        & operation_in_range(vlan.operation)
+}
+
+pub fn pack_vlan(v: VlanSettings) -> u32
+    requires { ⌜ VlanRange (vlanIs v) ⌝ }
+    ensures { λ r. ⌜ r ≡ vlanWord (vlanIs v) ⌝ }
+{
+    v.members + v.gid * 32 + v.vid * 512
+}
+
+// An entry of the table as a frame's way reads it: its operation is stored with the frame as it stands.
+pub struct Entry {
+    pub vid: u32,
+    pub members: u32,
+    pub gid: u32,
+    pub operation: u32,
+}
+
+pub fn read_entry(word: u32, operation: u32) -> Entry
+    ensures { λ r. ⌜ (entryIs r ≡ vlanOfWords word operation) × (r .operation ≡ operation) ⌝ }
+{
+    Entry {
+        vid: word / 512,
+        members: word % 32,
+        gid: word / 32 % 16,
+        operation,
+    }
 }

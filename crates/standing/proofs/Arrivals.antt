@@ -25,7 +25,7 @@ use Rattle.cells.proofs.Paths.{length-follow, follow-split}
 use Rattle.cells.proofs.Words.{taken-follow, taken-size-other, taken-ports, taken-ports-other, length-taken}
 use Rattle.cells.proofs.Kept.{taken-cells, free-taken, taken-sound}
 use Rattle.cells.proofs.Apart.{taken-queues}
-use Rattle.cells.proofs.Unchanged.{same-size, same-ports, same-free, same-frame, same-sound}
+use Rattle.cells.proofs.Unchanged.{same-ports, same-free, same-frame, same-sound}
 use Rattle.queues.specs.Lists.{listOf}
 use Rattle.queues.specs.Queued.{AllQueued}
 use Rattle.queues.proofs.Lists.{list-same, all-same}

@@ -1,7 +1,7 @@
 -- A copy that leaves a port: link memory with the frame departed and its queue popped stands for the traffic without that copy.
 -- Assumes nothing.
-use Prim.Native.Nat.{ℕ, _+_, _-_, _/_, _%_, _^_, _≤_, _<_}
-use mathlib.Core.Path.{_≡_, refl, sym, ap, ap₂, _∙_, subst}
+use Prim.Native.Nat.{ℕ, _-_, _/_, _%_, _^_, _≤_, _<_}
+use mathlib.Core.Path.{_≡_, refl, sym, ap, _∙_, subst}
 use mathlib.Core.Bool.{Bool, true, false, _&&_}
 use mathlib.Core.List.{List, [], _∷_}
 use native.Mathlib.Decide.{ℕ-discrete}
@@ -23,7 +23,7 @@ use Rattle.cells.proofs.Paths.{length-follow, follow-same}
 use Rattle.cells.proofs.Words.{given-ports-other, length-given}
 use Rattle.cells.proofs.Kept.{waiting-some, given-others, free-given, given-sound, ports-sound}
 use Rattle.cells.proofs.Apart.{given-queues, ports-queues}
-use Rattle.cells.proofs.Unchanged.{same-size, same-ports, same-free, same-frame, same-sound}
+use Rattle.cells.proofs.Unchanged.{same-ports, same-free, same-frame, same-sound}
 use Rattle.layout.proofs.Stores.{others-cells}
 use Rattle.queues.specs.Lists.{listOf, popped, poppedAt}
 use Rattle.queues.specs.Queued.{AllQueued}
@@ -33,7 +33,7 @@ use Rattle.queues.proofs.Lists.{list-same, all-same, all-popped, popped-lists}
 use Rattle.queues.proofs.Answers.{head-oldest}
 use Rattle.queues.proofs.WaitingWords.{waiting-popped-at, waiting-same}
 use Rattle.standing.specs.Links.{Links, Stands, freed, linkOut}
-use Rattle.take_out.specs.Leaving.{isLast, departed}
+use Rattle.departure.specs.Leaving.{isLast, departed}
 use Rattle.standing.specs.LinkTraffic.{linksIn, WaitsAs, LinkTraffic}
 use Rattle.standing.proofs.Linked.{stands-out, out-each}
 use Rattle.standing.proofs.Reading.{Same, stands-same}

@@ -18,7 +18,6 @@ use Rattle.rules.specs.Numbers.{allPorts}
 use Rattle.rules.proofs.Choice.{onList, each-append, each-map, each-zip, eqb-self}
 use Rattle.machine.specs.Waiting.{Waiting, size, send, join}
 use Rattle.machine.specs.FrameIn.{mask}
-use Rattle.layout.specs.Places.{frameWord}
 use Rattle.cells.specs.Chains.{follow, count}
 use Rattle.cells.specs.Free.{freeCount, firstFree, wordOf, sizeOf, portsOf, frameCells, givenBack}
 use Rattle.cells.specs.Bytes.{storeCells, headerIn, frameIn}
@@ -32,7 +31,7 @@ use Rattle.cells.proofs.Loads.{length-store, cell-store, load-other, frame-stor
 use Rattle.cells.proofs.Headers.{stored-length, stored-back}
 use Rattle.cells.proofs.Unchanged.{same-size, same-frame}
 use Rattle.queues.specs.Lists.{listOf}
-use Rattle.frame_in.specs.Stored.{storedHeader}
+use Rattle.arrival.specs.Stored.{storedHeader}
 use Rattle.take_out.specs.Frames.{frameOf, storedAt}
 use Rattle.standing.specs.LinkTraffic.{WaitsAs, LinkTraffic}
 use Rattle.standing.specs.Traffic.{Storable, HoldsFrame, Traffic}

@@ -9,12 +9,12 @@ use Rattle.rules.specs.Choice.{if_then_else_}
 use Rattle.rules.specs.Cells.{shortest, longest}
 use Rattle.rules.specs.Outcomes.{Frame}
 use Rattle.rules.proofs.Choice.{on}
-use Rattle.packed.specs.Operations.{isStoredWord, isExempt, operationEnd}
-use Rattle.packed.specs.Ports.{defaultNumber}
-use Rattle.packed.proofs.OperationLaws.{good-stored}
-use Rattle.packed.proofs.PortLaws.{default-back}
+use Rattle.settings.specs.Operations.{isStoredWord, isExempt, operationEnd}
+use Rattle.settings.specs.Ports.{defaultNumber}
+use Rattle.settings.proofs.OperationLaws.{good-stored}
+use Rattle.settings.proofs.PortLaws.{default-back}
 use Rattle.cells.specs.Stored.{storedInRange, storedOperation}
-use Rattle.frame_in.specs.Stored.{storedHeader}
+use Rattle.arrival.specs.Stored.{storedHeader}
 use Rattle.take_out.specs.Frames.{frameOf}
 use Rattle.standing.specs.Traffic.{Storable}
 

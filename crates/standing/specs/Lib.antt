@@ -2,3 +2,12 @@ pub mod Links
 pub mod TrafficTheorems
 pub mod LinkTraffic
 pub mod Traffic
+pub mod Promises
+pub mod PromiseTheorems
+pub mod Stands
+pub mod Lines
+pub mod RefusalTheorems
+pub mod Follows
+pub mod Histories
+pub mod Demands
+pub mod Theorems

@@ -16,7 +16,7 @@ use Rattle.rules.specs.Arguments.{operationOf}
 use Rattle.rules.specs.Outcomes.{Frame}
 use Rattle.machine.specs.Waiting.{Waiting}
 use Rattle.layout.specs.Places.{cellBytes}
-use Rattle.packed.specs.Operations.{operationIn, isOperationWord}
+use Rattle.settings.specs.Operations.{operationIn, isOperationWord}
 use Rattle.cells.specs.Free.{sizeOf}
 use Rattle.cells.specs.Stored.{storedInRange}
 use Rattle.take_out.specs.Frames.{storedAt, frameAt}

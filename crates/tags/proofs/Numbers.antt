@@ -4,9 +4,9 @@ use mathlib.Core.Path.{_≡_}
 use mathlib.Core.Bool.{true, false}
 use mathlib.Core.List.{List}
 use native.Mathlib.Omega.{arith}
-use Rattle.rules.specs.Tags.{HeaderInRange, Bytes, twoBytesAt, isTagType, tagAt, tagsOf, addressAt, headerOf}
+use Rattle.rules.specs.Tags.{Bytes, twoBytesAt, isTagType, tagAt, tagsOf, addressAt}
 use Rattle.tags.specs.Numbers.{tagIs, fewTags, firstTags, stackIs}
-use Rattle.tags.specs.Reading.{fourBytesAt, twoLowAt, fourLowAt, eightLowAt, swapTwo, swapFour, swapEight}
+use Rattle.tags.specs.Reading.{fourBytesAt}
 
 pub two-below : (bytes : List ℕ) (i : ℕ) → Bytes bytes → twoBytesAt bytes i < 65536
 unfolding twoBytesAt
@@ -23,16 +23,6 @@ header-of-four bytes i each = omega (arith, two-below bytes (i + 2) each)
 pub tag-of-four : (bytes : List ℕ) (i : ℕ) → Bytes bytes → tagIs (fourBytesAt bytes i) ≡ tagAt bytes i
 unfolding tagIs tagAt
 tag-of-four bytes i each = rw (type-of-four bytes i each, header-of-four bytes i each)
-
-pub header-of-parts :
-    (pcp dei vid : ℕ) → HeaderInRange (record { pcp = pcp; dei = dei; vid = vid })
-    → headerOf (pcp * 8192 + dei * 4096 + vid) ≡ record { pcp = pcp; dei = dei; vid = vid }
-unfolding headerOf
-header-of-parts pcp dei vid h =
-    let p : (pcp * 8192 + dei * 4096 + vid) / 8192 ≡ pcp = omega (arith, h .dei, h .vid) in
-    let d : (pcp * 8192 + dei * 4096 + vid) / 4096 % 2 ≡ dei = omega (arith, h .dei, h .vid) in
-    let v : (pcp * 8192 + dei * 4096 + vid) % 4096 ≡ vid = omega (arith, h .vid) in
-    rw (p, d, v)
 
 pub address-of-six : (bytes : List ℕ) (i : ℕ) → twoBytesAt bytes i * 4294967296 + fourBytesAt bytes (i + 2) ≡ addressAt bytes i
 unfolding twoBytesAt fourBytesAt addressAt

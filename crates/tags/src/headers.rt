@@ -2,18 +2,10 @@
 use crate::stack::Stack;
 ghost use mathlib.Core.Path.{_≡_};
 ghost use Prim.Native.Nat.{_%_, _≤_, _<_};
-ghost use Rattle.rules.specs.Tags.{HeaderInRange, headerOf};
+ghost use Rattle.rules.specs.Tags.{headerOf};
 ghost use Rattle.rules.specs.Operations.{headerAt};
 ghost use Rattle.rules.specs.Settings.{assignedVid, queuePcp};
 ghost use Rattle.tags.specs.Numbers.{stackIs};
-
-// A header of its parts.
-pub fn header(pcp: u32, dei: u32, vid: u32) -> u16
-    requires { ⌜ HeaderInRange (record { pcp = pcp; dei = dei; vid = vid }) ⌝ }
-    ensures { λ r. ⌜ headerOf r ≡ record { pcp = pcp; dei = dei; vid = vid } ⌝ }
-{
-    (pcp * 8192 + dei * 4096 + vid) as u16
-}
 
 fn header_of_tag(tag: u32) -> u16
     ensures { λ r. ⌜ r ≡ tag % 65536 ⌝ }

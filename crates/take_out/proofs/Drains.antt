@@ -6,8 +6,8 @@ use mathlib.Core.List.{List}
 use borrow.Author.Tests.{lt-ltb, le-ltb}
 use Rattle.rules.specs.Lines.{first}
 use Rattle.rules.specs.Refusals.{memoryLength, portAboveFour, memoryDamaged, drainLines}
-use Rattle.lent.specs.Lengths.{cellCount, linksFit}
-use Rattle.lent.specs.Answers.{refusedBy, doneWith}
+use Rattle.layout.specs.Lengths.{cellCount, linksFit}
+use Rattle.layout.specs.Answers.{refusedBy, doneWith}
 use Rattle.take_out.specs.Drain.{canDrainAll, drainAll, copies, drainRefusals, drainCall}
 
 module _ (l : List ℕ) (port : ℕ) where

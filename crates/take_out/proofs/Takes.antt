@@ -1,7 +1,6 @@
 -- The outcomes of the call take, path by path. Assumes nothing.
-use Prim.Native.Nat.{ℕ, zero, suc, _≤_, _<_}
+use Prim.Native.Nat.{ℕ, _≤_, _<_}
 use mathlib.Core.Path.{_≡_, refl, sym, ap, _∙_}
-use mathlib.Core.Logic.{_⊎_, inl, inr, ⊎-elim}
 use mathlib.Core.Bool.{Bool, true, false, _&&_}
 use mathlib.Core.List.{List}
 use native.Mathlib.Omega.{arith}
@@ -13,19 +12,19 @@ use Rattle.rules.proofs.Choice.{on, and-left, and-right, and-false}
 use Rattle.rules.specs.Arguments.{bit, portOf}
 use Rattle.rules.specs.Counters.{counterNumber}
 use Rattle.machine.specs.TakeOut.{leavingStack, leavingBytes}
-use Rattle.lent.specs.declared.Answer.{Answer}
-use Rattle.lent.specs.Lengths.{cellCount, linksFit, cellsFit}
-use Rattle.lent.specs.Answers.{refusedBy, doneWith}
+use Rattle.layout.specs.declared.answers.Answer.{Answer}
+use Rattle.layout.specs.Lengths.{cellCount, linksFit, cellsFit}
+use Rattle.layout.specs.Answers.{refusedBy, doneWith}
 use Rattle.queues.specs.Lists.{poppedAt}
 use Rattle.settings.specs.SettingsOf as Settings
 use Rattle.settings.specs.SettingsOf.{settingsOf}
 use Rattle.take_out.specs.Serving.{served}
-use Rattle.words.specs.Counters.{bumped}
+use Rattle.layout.specs.Counters.{bumped}
 use Rattle.cells.specs.Free.{sizeOf, portsOf, isFrame}
 use Rattle.cells.specs.declared.stored.StoredHeader.{StoredHeader}
-use Rattle.leaving_bytes.proofs.Headers.{header}
-use Rattle.departures.proofs.Copies as Copies
-use Rattle.take_out.specs.Leaving.{hasRoom, canLeave, departed, left}
+use Rattle.departure.proofs.Headers.{header}
+use Rattle.departure.proofs.Copies as Copies
+use Rattle.departure.specs.Leaving.{hasRoom, canLeave, departed, left}
 use Rattle.take_out.specs.Frames.{storedAt, frameOf, leavingOf, leavingFrom, written, headerFits, canSend}
 use Rattle.take_out.specs.Take.{leavingAt, sentFrom, takenFrame, takenOrDamaged, damagedIn, takenFrom, takeRefusals, takeBy, takeCall}
 use Rattle.take_out.specs.declared.serving.Next.{Next}
@@ -40,16 +39,23 @@ leaving-at n cells l port queue c h = rw (lt-ltb port 5 h)
 
 pub sent-is :
     (cells : List ℕ) (n : ℕ) (l : List ℕ) (port : ℕ) (out : List ℕ) (queue c : ℕ) → port < 5
-    → (answer : Answer) (count : ℕ) (buffer departing leaving : List ℕ)
+    → (answer : Answer) (count : ℕ) (buffer leaving : List ℕ)
     → answer ≡ doneWith count queue
     → (count, buffer) ≡ written out (leavingFrom n cells l port c)
+    → leaving ≡ sentFrom n port queue c l
+    → (answer, (leaving, buffer)) ≡ takenFrame cells n l port out queue c
+unfolding takenFrame
+sent-is cells n l port out queue c known answer count buffer leaving a b e =
+    let bytes = leaving-at n cells l port queue c known in
+    rw (a, e, ap (λ (p : ℕ × List ℕ). p .0) b, ap (λ (p : ℕ × List ℕ). p .1) b, bytes)
+
+pub sent-from :
+    (n : ℕ) (l : List ℕ) (port queue c : ℕ) (departing leaving : List ℕ)
     → departing ≡ departed n port c l
     → leaving ≡ bumped port 19 (poppedAt port queue c departing)
-    → (answer, (leaving, buffer)) ≡ takenFrame cells n l port out queue c
-unfolding takenFrame sentFrom left counterNumber
-sent-is cells n l port out queue c known answer count buffer departing leaving a b d e =
-    let bytes = leaving-at n cells l port queue c known in
-    rw (a, e, d, ap (λ (p : ℕ × List ℕ). p .0) b, ap (λ (p : ℕ × List ℕ). p .1) b, bytes)
+    → leaving ≡ sentFrom n port queue c l
+unfolding sentFrom left counterNumber
+sent-from n l port queue c departing leaving d e = e ∙ (rw d)
 
 -- ---- the tests of the frame
 

@@ -4,11 +4,11 @@ use mathlib.Core.Bool.{not}
 use mathlib.Core.List.{List, [], _∷_, _++_}
 use Rattle.rules.specs.Lines.{Line, first}
 use Rattle.rules.specs.Refusals.{Refusal, drainLines}
-use Rattle.lent.specs.Lengths.{cellCount, linksFit}
-use Rattle.lent.specs.Answers.{lengthLine, damageLine, orRefused, doneWith}
-use Rattle.lent.specs.declared.Answer.{Answer}
-unfoldable pub use Rattle.departures.specs.Draining.{allCanLeave, canDrain, canDrainAll, dropped}
-unfoldable pub use Rattle.departures.specs.Draining.{drainOne, drainQueue, queueCopies, drainAll, copies}
+use Rattle.layout.specs.Lengths.{cellCount, linksFit}
+use Rattle.layout.specs.Answers.{lengthLine, damageLine, orRefused, doneWith}
+use Rattle.layout.specs.declared.answers.Answer.{Answer}
+unfoldable pub use Rattle.departure.specs.Draining.{allCanLeave, canDrain, canDrainAll, dropped}
+unfoldable pub use Rattle.departure.specs.Draining.{drainOne, drainQueue, queueCopies, drainAll, copies}
 
 unfoldable pub drainRefusals : List ℕ → ℕ → List (Line Refusal)
 drainRefusals links port =

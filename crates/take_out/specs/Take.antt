@@ -9,12 +9,12 @@ use Rattle.rules.specs.Lines.{Line, first}
 use Rattle.rules.specs.Counters.{sent}
 use Rattle.rules.specs.Refusals.{Refusal, memoryDamaged, takeLines}
 use Rattle.machine.specs.TakeOut.{leavingBytes}
-use Rattle.lent.specs.Lengths.{cellCount, linksFit, cellsFit}
-use Rattle.lent.specs.Answers.{lengthLine, damageLine, orRefused, refusedBy, doneWith}
-use Rattle.lent.specs.declared.Answer.{Answer}
+use Rattle.layout.specs.Lengths.{cellCount, linksFit, cellsFit}
+use Rattle.layout.specs.Answers.{lengthLine, damageLine, orRefused, refusedBy, doneWith}
+use Rattle.layout.specs.declared.answers.Answer.{Answer}
 use Rattle.settings.specs.SettingsOf.{settingsOf}
 use Rattle.take_out.specs.Serving.{served}
-use Rattle.take_out.specs.Leaving.{departed, left}
+use Rattle.departure.specs.Leaving.{departed, left}
 use Rattle.take_out.specs.Frames.{frameAt, canSend}
 use Rattle.take_out.specs.declared.serving.Next.{Next}
 use Rattle.take_out.specs.declared.serving.Next.the-variants.{Frame, Nobody, Damaged}

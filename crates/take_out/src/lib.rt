@@ -7,7 +7,13 @@ ghost use Rattle.take_out.specs.Drain.{drainCall};
 use crate::serving::Next;
 use crate::serving::served;
 use layout::CELL_COUNT;
-use lent::Answer;
+use layout::answers::Answer;
+use layout::numbers::LARGEST_RESULT;
+use layout::numbers::LAST_PORT;
+use layout::refusals::MEMORY_DAMAGED;
+use layout::refusals::MEMORY_LENGTH;
+use layout::refusals::PORT_ABOVE_FOUR;
+use layout::refusals::SHORT_BUFFER;
 
 mod serving; // which queue is served
 mod taking; // a frame is taken
@@ -19,24 +25,25 @@ pub fn take_into(cells: &[u8], links: &mut [u32], port: u32, out: &mut [u8]) -> 
         ≡ takeCall (now (cells .entry)) (now (links .entry)) port (now (out .entry)) ⌝ }
     ensures { λ r. ⌜ r .x ≤ length (now (out .entry)) ⌝ }
 {
-    if !lent::links_fit(links) {
-        return lent::refused(1);
+    if !layout::lengths::links_fit(links) {
+        return layout::answers::refused(MEMORY_LENGTH);
     }
-    if !lent::cells_fit(cells, links) {
-        return lent::refused(1);
+    if !layout::lengths::cells_fit(cells, links) {
+        return layout::answers::refused(MEMORY_LENGTH);
     }
-    if 4 < port {
-        return lent::refused(2);
+    if LAST_PORT < port {
+        return layout::answers::refused(PORT_ABOVE_FOUR);
     }
-    if out.len() < 4091 {
-        return lent::refused(5);
+    if out.len() < LARGEST_RESULT {
+        return layout::answers::refused(SHORT_BUFFER);
     }
     let n = links[CELL_COUNT] as usize;
-    let next = served(links, n, port as usize);
+    let p = port as usize;
+    let next = served(links, n, p);
     match next {
-        Next::Frame { queue, cell } => taking::take_frame(cells, links, n, port, queue, cell, out),
-        Next::Nobody => lent::done(0, 0),
-        Next::Damaged => lent::refused(10),
+        Next::Frame { queue, cell } => taking::take_frame(cells, links, n, p, queue, cell, out),
+        Next::Nobody => layout::answers::done(0, 0),
+        Next::Damaged => layout::answers::refused(MEMORY_DAMAGED),
     }
 }
 
@@ -55,16 +62,16 @@ pub fn take<'a>(cells: &[u8], links: &mut [u32], port: u32, out: &'a mut [u8]) -
 pub fn drain(links: &mut [u32], port: u32) -> Answer
     ensures { λ r. ⌜ (r, now (links .exit)) ≡ drainCall (now (links .entry)) port ⌝ }
 {
-    if !lent::links_fit(links) {
-        return lent::refused(1);
+    if !layout::lengths::links_fit(links) {
+        return layout::answers::refused(MEMORY_LENGTH);
     }
-    if 4 < port {
-        return lent::refused(2);
+    if LAST_PORT < port {
+        return layout::answers::refused(PORT_ABOVE_FOUR);
     }
     let n = links[CELL_COUNT] as usize;
-    if !departures::draining::can_drain_all(links, n, port) {
-        return lent::refused(10);
+    if !departure::draining::can_drain_all(links, n, port) {
+        return layout::answers::refused(MEMORY_DAMAGED);
     }
-    let copies = departures::draining::drain_all(links, n, port);
-    lent::done(copies, 0)
+    let copies = departure::draining::drain_all(links, n, port);
+    layout::answers::done(copies, 0)
 }

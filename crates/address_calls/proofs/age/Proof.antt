@@ -1,7 +1,7 @@
 -- `address_calls::age` meets its contract. Assumes nothing.
 use mathlib.Core.Path.{sym, _∙_}
 use Rattle.rules.specs.Refusals.{refusalNumber}
-use Rattle.lent.proofs.Fits.{addresses-fit}
+use Rattle.layout.proofs.Fits.{addresses-fit}
 use Rattle.address_calls.proofs.Outcomes.{age-short, age-damaged, age-done}
 use borrow.Author.Needs.{needs}
 use Rattle.address_calls.proofs.age.Statement.{statement}

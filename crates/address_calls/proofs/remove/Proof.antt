@@ -1,7 +1,7 @@
 -- `address_calls::remove` meets its contract. Assumes nothing.
 use mathlib.Core.Path.{sym, _∙_}
 use Rattle.rules.specs.Refusals.{refusalNumber}
-use Rattle.lent.proofs.Fits.{addresses-fit}
+use Rattle.layout.proofs.Fits.{addresses-fit}
 use Rattle.address_calls.proofs.Outcomes.{key-numbers, remove-short, remove-range, remove-goes-on}
 use borrow.Author.Needs.{needs}
 use Rattle.address_calls.proofs.remove.Statement.{statement}

@@ -2,7 +2,7 @@
 use mathlib.Core.Path.{sym, _∙_}
 use native.Mathlib.Omega.{arith}
 use Rattle.rules.specs.Refusals.{refusalNumber}
-use Rattle.lent.proofs.Fits.{addresses-fit}
+use Rattle.layout.proofs.Fits.{addresses-fit}
 use Rattle.address_calls.proofs.Outcomes.{key-numbers, static-short, static-port, static-range, static-group, static-goes-on}
 use borrow.Author.Needs.{needs}
 use Rattle.address_calls.proofs.set_static.Statement.{statement}

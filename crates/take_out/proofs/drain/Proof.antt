@@ -6,9 +6,9 @@ use native.Mathlib.Omega.{arith}
 use borrow.Author.Tests.{not-true, not-false}
 use borrow.Author.Needs.{needs}
 use Rattle.rules.specs.Refusals.{refusalNumber}
-use Rattle.lent.proofs.Fits.{links-fit}
-use Rattle.lent.specs.Answers.{doneWith}
-use Rattle.lent.specs.declared.Answer.{Answer}
+use Rattle.layout.proofs.Fits.{links-fit}
+use Rattle.layout.specs.Answers.{doneWith}
+use Rattle.layout.specs.declared.answers.Answer.{Answer}
 use Rattle.take_out.proofs.Drains.{by-links, by-port, by-damage, by-draining}
 use Rattle.take_out.proofs.drain.Statement.{statement}
 use Rattle.take_out.proofs.drain.Tie as tie

@@ -4,9 +4,9 @@ use native.Mathlib.Omega.{arith}
 use borrow.Author.Tests.{not-true, not-false}
 use borrow.Author.Needs.{needs}
 use Rattle.rules.specs.Refusals.{refusalNumber}
-use Rattle.lent.proofs.Fits.{links-fit, cells-fit}
-use Rattle.lent.specs.Lengths.{cellCount}
-use Rattle.lent.specs.declared.Answer.{Answer}
+use Rattle.layout.proofs.Fits.{links-fit, cells-fit}
+use Rattle.layout.specs.Lengths.{cellCount}
+use Rattle.layout.specs.declared.answers.Answer.{Answer}
 use Rattle.take_out.specs.declared.serving.Next.the-variants.{Nobody, Damaged}
 use Rattle.take_out.specs.declared.serving.Next.{Next}
 use Rattle.take_out.specs.Serving.{served}

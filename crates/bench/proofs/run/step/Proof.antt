@@ -6,7 +6,7 @@ use borrow.Author.Needs.{needs}
 use Rattle.records.proofs.Cutting.{framing}
 use Rattle.records.specs.declared.framing.Next.the-variants.{More, Finished, Cut, Whole}
 use Rattle.bench.specs.declared.progress.Progress.{Progress}
-use Rattle.bench.specs.Steady.{Steady, left-length}
+use Rattle.bench.proofs.Reading.{left-length}
 use Rattle.bench.specs.Stepped.{nextAt}
 use Rattle.bench.proofs.run.step.Statement.{statement}
 use Rattle.bench.proofs.run.step.Tie as tie

@@ -1,10 +1,8 @@
 -- `cells::bytes::store` meets its contract: the first cell takes the header and as much of the frame as there is room for, and `store_rest` does the rest. Assumes nothing.
 use mathlib.Core.Path.{ap, _∙_}
 use mathlib.Core.List.{List}
-use Prim.Native.Nat.{ℕ, _-_}
-use lib.ListN.{length, drop, length-take}
+use Prim.Native.Nat.{ℕ}
 use Rattle.cells.specs.Chains.{nextIn}
-use Rattle.cells.specs.Bytes.{cellsFor, storeFrom}
 use Rattle.cells.specs.Stored.{storedBytes}
 use Rattle.cells.proofs.Headers.{stored-length}
 use Rattle.cells.proofs.Turns.{store-short, store-long}
@@ -48,14 +46,11 @@ returns c =
     ap (λ (y : List ℕ). (nextIn (s .args .links .now) (s .args .first), y)) (at-copy .copy .ensures ∙ (rw (at-header .write-header .ensures)))
     ∙ store-short (s .args .n) (s .args .links .now) (s .args .first) (s .args .cells .now) (storedBytes (s .args .header)) (s .args .frame .now) (stored-length (s .args .header)) (omega arith)
 
-add-copy-2 : tie.Need-add-copy-2
-add-copy-2 c = search needs
+add-copy-first-part : tie.Need-add-copy-first-part
+add-copy-first-part c = search needs
 
-slice-aggregate-copy : tie.Need-slice-aggregate-copy
-slice-aggregate-copy c = simp length-take (omega arith)
-
-copy-requires-2 : tie.Need-copy-requires-2
-copy-requires-2 c κs = simp length-take (omega (arith, c .before .before .before .before .before .before .write-header .kept .0))
+copy-first-part-requires : tie.Need-copy-first-part-requires
+copy-first-part-requires c κs = search needs
 
 below-requires : tie.Need-below-requires
 below-requires c κs = search needs
@@ -70,10 +65,10 @@ returns-2 : tie.Need-returns-2
 returns-2 c =
     let at-rest = c .before .before in
     let at-copy = at-rest .before .before .before .before .before in
-    let at-header = at-copy .before .before .before .before .before .before .before in
+    let at-header = at-copy .before .before .before .before .before .before in
     let s = at-header .before .before .before .before .before in
     at-rest .store-rest .ensures
-    ∙ (rw (at-rest .before .below .ensures .0, at-copy .copy2 .ensures, at-header .write-header .ensures)
+    ∙ (rw (at-rest .before .below .ensures .0, at-copy .copy-first-part .ensures, at-header .write-header .ensures)
     (store-long (s .args .n) (s .args .links .now) (s .args .first) (s .args .cells .now) (storedBytes (s .args .header)) (s .args .frame .now) (stored-length (s .args .header)) (omega arith)))
 
 pub store-spec : {M : Type 1} → statement M
@@ -90,9 +85,8 @@ store-spec =
     copy-requires
     same-length
     returns
-    add-copy-2
-    slice-aggregate-copy
-    copy-requires-2
+    add-copy-first-part
+    copy-first-part-requires
     below-requires
     store-rest-requires
     same-length-2

@@ -1,20 +1,11 @@
 -- `frame_in::carry::carry_out` meets its contract. Assumes nothing.
-use Rattle.frame_in.proofs.Joins.{carried-is}
+use Rattle.frame_in.proofs.Joins.{dropped-is}
 use borrow.Author.Needs.{needs}
 use Rattle.frame_in.proofs.carry.carry_out.Statement.{statement}
 use Rattle.frame_in.proofs.carry.carry_out.Tie as tie
 
-join-if-requires : tie.Need-join-if-requires
-join-if-requires c κs = search needs
-
-take-lesson-requires : tie.Need-take-lesson-requires
-take-lesson-requires c κs = search needs
-
-count-requires : tie.Need-count-requires
-count-requires c κs = search needs
-
-done-requires : tie.Need-done-requires
-done-requires c κs = search needs
+accept-requires : tie.Need-accept-requires
+accept-requires c κs = search needs
 
 same-length : tie.Need-same-length
 same-length c = search needs
@@ -26,17 +17,30 @@ same-length-3 : tie.Need-same-length-3
 same-length-3 c = search needs
 
 returns : tie.Need-returns
-returns c = let s = c .before .before .before .before .before .before .before .before .before .before .before .before .before .before .before .before .before .before .before .before .before in carried-is (s .args .n) (s .args .plan) (s .args .frame .now) (s .args .cells .now) (s .args .links .now) (s .args .port) (s .args .addresses .now) (c .before .before .before .before .before .before .before .before .before .before .before .before .before .before .join-if .ensures) (c .before .before .before .before .before .before .before .take-lesson .ensures) (c .before .before .before .count .ensures) (c .done .ensures)
+returns c = search needs
+
+drop-requires : tie.Need-drop-requires
+drop-requires c κs = search needs
+
+same-length-4 : tie.Need-same-length-4
+same-length-4 c = search needs
+
+same-length-5 : tie.Need-same-length-5
+same-length-5 c = search needs
+
+returns-2 : tie.Need-returns-2
+returns-2 c = let s = c .before .before .before .before .before .before .before .before .before .before .before .before .before in dropped-is (s .args .n) (s .args .plan) (s .args .frame .now) (s .args .cells .now) (s .args .links .now) (s .args .port) (c .before .before .before .before .before .before .before .if1 .left) (s .args .addresses .now) (c .before .before .before .before .drop .ensures)
 
 pub carry-out-spec : {M : Type 1} → statement M
 carry-out-spec =
     tie.close
     (tie.spec
-    join-if-requires
-    take-lesson-requires
-    count-requires
-    done-requires
+    accept-requires
     same-length
     same-length-2
     same-length-3
-    returns)
+    returns
+    drop-requires
+    same-length-4
+    same-length-5
+    returns-2)

@@ -5,7 +5,7 @@ use mathlib.Core.List.{List}
 use native.Mathlib.Omega.{arith}
 use borrow.Author.Needs.{needs}
 use lib.ListN.{length}
-use Rattle.frame_rules.specs.Candidates.{portsIn}
+use Rattle.arrival.specs.Candidates.{portsIn}
 use Rattle.frame_in.specs.Carried.{eachPort, bumpAt}
 use Rattle.frame_in.proofs.Each.{portsFrom, each-none, each-starts, each-turn, each-ends}
 use Rattle.frame_in.proofs.carry.count_each.Statement.{statement}

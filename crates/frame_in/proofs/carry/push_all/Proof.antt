@@ -1,13 +1,12 @@
 -- `frame_in::carry::push_all` meets its contract. What is left to do, done on the memory as it is, gives the result. Assumes nothing.
-use Prim.Native.Nat.{ℕ, _+_, _-_, _≤_, _<_}
+use Prim.Native.Nat.{ℕ, _+_, _-_, _≤_}
 use mathlib.Core.Path.{_≡_, refl, sym, ap, _∙_}
-use mathlib.Core.Bool.{true}
 use mathlib.Core.List.{List}
 use native.Mathlib.Omega.{arith}
 use borrow.Author.Needs.{needs}
 use lib.ListN.{length}
-use Rattle.frame_rules.specs.Candidates.{portsIn}
-use Rattle.frame_in.specs.Carried.{eachPort, pushAt}
+use Rattle.arrival.specs.Candidates.{portsIn}
+use Rattle.frame_in.specs.Carried.{eachPort, enqueueAt}
 use Rattle.frame_in.proofs.Each.{portsFrom, each-starts, each-turn, each-ends}
 use Rattle.frame_in.proofs.carry.push_all.Statement.{statement}
 use Rattle.frame_in.proofs.carry.push_all.Tie as tie
@@ -15,7 +14,7 @@ use Rattle.frame_in.proofs.carry.push_all.Tie as tie
 abbrev Inv-loop : tie.InvT-loop
 Inv-loop links₀ n left queue first port₀ links port =
     (port ≤ 5) × (length links ≡ length links₀)
-    × (eachPort (pushAt n queue first) (portsFrom left port) links ≡ eachPort (pushAt n queue first) (portsIn left) links₀)
+    × (eachPort (enqueueAt n queue first) (portsFrom left port) links ≡ eachPort (enqueueAt n queue first) (portsIn left) links₀)
 
 abbrev μ-loop : tie.MeasureT-loop
 μ-loop links₀ n left queue first port₀ links port = 5 - port
@@ -25,7 +24,7 @@ loop-holds c =
     let s = c .before in (
       omega arith,
       refl,
-      each-starts (pushAt (s .args .n) (s .args .queue) (s .args .first)) (s .args .left) _,
+      each-starts (enqueueAt (s .args .n) (s .args .queue) (s .args .first)) (s .args .left) _,
     )
 
 push-if-requires : tie.Need-push-if-requires Inv-loop μ-loop
@@ -42,7 +41,7 @@ loop-again c =
     let at = c .before .before .before .before .before in
     let s = at .before .before in
     let a = s .args in
-    let f = pushAt (a .n) (a .queue) (a .first) in (
+    let f = enqueueAt (a .n) (a .queue) (a .first) in (
       omega arith,
       search needs,
       ap (λ (l : List ℕ). eachPort f (portsFrom (a .left) (at .loop .port + 1)) l) (c .before .before .push-if .ensures)
@@ -56,7 +55,7 @@ same-length c = search needs
 returns : tie.Need-returns Inv-loop μ-loop
 returns c =
     let a = c .before .before .before .args in
-    sym (each-ends (pushAt (a .n) (a .queue) (a .first)) (a .left) (c .before .loop .port) (c .before .loop .links) (omega arith)) ∙ c .before .loop .inv .2
+    sym (each-ends (enqueueAt (a .n) (a .queue) (a .first)) (a .left) (c .before .loop .port) (c .before .loop .links) (omega arith)) ∙ c .before .loop .inv .2
 
 pub push-all-spec : {M : Type 1} → statement M
 push-all-spec =

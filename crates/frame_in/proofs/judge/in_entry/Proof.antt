@@ -20,29 +20,26 @@ shared-slice-read-operation c = search needs
 is-operation-word-requires : tie.Need-is-operation-word-requires
 is-operation-word-requires c κs = search needs
 
-mul-unpack-vlan : tie.Need-mul-unpack-vlan
-mul-unpack-vlan c = search needs
+mul-read-entry : tie.Need-mul-read-entry
+mul-read-entry c = search needs
 
-add-unpack-vlan : tie.Need-add-unpack-vlan
-add-unpack-vlan c = search needs
+add-read-entry : tie.Need-add-read-entry
+add-read-entry c = search needs
 
-mul-unpack-vlan-2 : tie.Need-mul-unpack-vlan-2
-mul-unpack-vlan-2 c = search needs
+mul-read-entry-2 : tie.Need-mul-read-entry-2
+mul-read-entry-2 c = search needs
 
-shared-slice-read-unpack-vlan : tie.Need-shared-slice-read-unpack-vlan
-shared-slice-read-unpack-vlan c = search needs
+shared-slice-read-read-entry : tie.Need-shared-slice-read-read-entry
+shared-slice-read-read-entry c = search needs
 
-unpack-operation-requires : tie.Need-unpack-operation-requires
-unpack-operation-requires c κs = search needs
-
-unpack-vlan-requires : tie.Need-unpack-vlan-requires
-unpack-vlan-requires c κs = search needs
+read-entry-requires : tie.Need-read-entry-requires
+read-entry-requires c κs = search needs
 
 bit-requires : tie.Need-bit-requires
 bit-requires c κs = search needs
 
 member-requires : tie.Need-member-requires
-member-requires c κs = as-member _ _ _ _ _ _ _ (c .before .before .before .before .before .before .before .before .before .before .before .pre) _ refl (sym (c .before .before .before .before .before .before .is-operation-word .ensures) ∙ c .before .before .before .before .before .if1 .taken) _ refl _ (c .before .before .before .unpack-operation .ensures) _ (c .before .before .unpack-vlan .ensures) (sym (c .before .bit .ensures) ∙ c .if2 .taken)
+member-requires c κs = as-member _ _ _ _ _ _ _ (c .before .before .before .before .before .before .before .before .before .before .pre) _ refl (sym (c .before .before .before .before .before .is-operation-word .ensures) ∙ c .before .before .before .before .if1 .taken) _ refl _ (c .before .before .read-entry .ensures) (sym (c .before .bit .ensures) ∙ c .if2 .taken)
 
 returns : tie.Need-returns
 returns c = search needs
@@ -51,7 +48,7 @@ drop-plan-requires : tie.Need-drop-plan-requires
 drop-plan-requires c κs = search needs
 
 returns-2 : tie.Need-returns-2
-returns-2 c = rw (c .drop-plan .ensures) (nine _ _ _ _ _ _ _ (c .before .before .before .before .before .before .before .before .before .before .before .before .pre) _ refl (sym (c .before .before .before .before .before .before .before .is-operation-word .ensures) ∙ c .before .before .before .before .before .before .if1 .taken) _ refl _ (c .before .before .before .before .unpack-operation .ensures) _ (c .before .before .before .unpack-vlan .ensures) (sym (c .before .before .bit .ensures) ∙ c .before .if2 .left))
+returns-2 c = rw (c .drop-plan .ensures) (nine _ _ _ _ _ _ _ (c .before .before .before .before .before .before .before .before .before .before .before .pre) _ refl (sym (c .before .before .before .before .before .before .is-operation-word .ensures) ∙ c .before .before .before .before .before .if1 .taken) _ refl _ (c .before .before .before .read-entry .ensures) (sym (c .before .before .bit .ensures) ∙ c .before .if2 .left))
 
 damaged-plan-requires : tie.Need-damaged-plan-requires
 damaged-plan-requires c κs = search needs
@@ -68,12 +65,11 @@ in-entry-spec =
     mul-operation-2
     shared-slice-read-operation
     is-operation-word-requires
-    mul-unpack-vlan
-    add-unpack-vlan
-    mul-unpack-vlan-2
-    shared-slice-read-unpack-vlan
-    unpack-operation-requires
-    unpack-vlan-requires
+    mul-read-entry
+    add-read-entry
+    mul-read-entry-2
+    shared-slice-read-read-entry
+    read-entry-requires
     bit-requires
     member-requires
     returns

@@ -1,6 +1,6 @@
 -- `frame_in::judge::past_early` meets its contract. Assumes nothing.
 use mathlib.Core.Path.{refl, sym, _∙_}
-use Rattle.packed.proofs.PortLaws.{vid-word}
+use Rattle.settings.proofs.PortLaws.{vid-word}
 use Rattle.frame_in.proofs.Steps.{port-damaged, map-damaged, as-bpdu, no-bpdu}
 use borrow.Author.Needs.{needs}
 use Rattle.frame_in.proofs.judge.past_early.Statement.{statement}

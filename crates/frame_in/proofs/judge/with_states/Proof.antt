@@ -1,6 +1,6 @@
 -- `frame_in::judge::with_states` meets its contract. Assumes nothing.
 use mathlib.Core.Path.{refl, sym, _∙_}
-use Rattle.packed.proofs.PortLaws.{vid-word}
+use Rattle.settings.proofs.PortLaws.{vid-word}
 use Rattle.frame_in.proofs.Steps.{states-damaged, as-ordinary}
 use borrow.Author.Needs.{needs}
 use Rattle.frame_in.proofs.judge.with_states.Statement.{statement}

@@ -4,8 +4,8 @@ use native.Mathlib.Omega.{arith}
 use borrow.Author.Needs.{needs}
 use lib.ListN.{length-set}
 use Rattle.rules.specs.Arguments.{PortNumbers}
-use Rattle.packed.specs.Operations.{operationWord}
-use Rattle.packed.specs.Ports.{portWord}
+use Rattle.settings.specs.Operations.{operationWord}
+use Rattle.settings.specs.Ports.{portWord}
 use Rattle.fresh_call.proofs.Runs.{port-run}
 use Rattle.fresh_call.proofs.FreshRanges.{fresh-port-range}
 use Rattle.fresh_call.proofs.records.start_port.Statement.{statement}

@@ -1,12 +1,12 @@
 -- `records::lines::put_decimal` meets its contract: the last digit stands behind those of a tenth. The measure is the number.
 -- Assumes nothing.
-use Prim.Native.Nat.{ℕ, _+_, _/_, _≤_, _<_}
-use mathlib.Core.Path.{_≡_, ap}
+use Prim.Native.Nat.{ℕ, _<_}
+use mathlib.Core.Path.{_≡_}
 use native.Mathlib.Omega.{arith}
-use lib.ListN.{length, length-set}
+use lib.ListN.{length-set}
 use borrow.Fn.Kinds.{In}
 use borrow.Fn.PlainCycle.{Measures, is, falls, and}
-use Rattle.records.specs.Lines.{decimal, written}
+use Rattle.records.specs.Lines.{written}
 use Rattle.records.proofs.LineLaws.{decimal-one, decimal-more, decimal-one-length, decimal-more-length, written-place, written-byte}
 use Rattle.records.proofs.lines.put_decimal.Reads as put-decimal
 use Rattle.records.proofs.lines.put_decimal.Kinds as put-decimal-kinds

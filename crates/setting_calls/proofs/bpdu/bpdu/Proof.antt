@@ -3,7 +3,7 @@ use mathlib.Core.Path.{sym, _∙_}
 use borrow.Author.Tests.{le-leb, lt-leb}
 use Rattle.rules.specs.Refusals.{refusalNumber, bpduLines}
 use Rattle.setting_calls.specs.Calls.{bpduRefusals, bpduCall}
-use Rattle.lent.proofs.Ends.{fixed-part, too-short, long-enough, out-of-range, in-range}
+use Rattle.layout.proofs.Ends.{fixed-part, too-short, long-enough, out-of-range, in-range}
 use borrow.Author.Needs.{needs}
 use Rattle.setting_calls.proofs.bpdu.bpdu.Statement.{statement}
 use Rattle.setting_calls.proofs.bpdu.bpdu.Tie as tie

@@ -4,7 +4,7 @@ use native.Mathlib.Omega.{arith}
 use borrow.Author.Tests.{le-leb, lt-leb}
 use Rattle.rules.specs.Refusals.{refusalNumber, counterLines}
 use Rattle.setting_calls.specs.Calls.{counterRefusals, counterCall}
-use Rattle.lent.proofs.Ends.{fixed-part, too-short, long-enough, port-above, port-good, out-of-range, in-range, finished}
+use Rattle.layout.proofs.Ends.{fixed-part, too-short, long-enough, port-above, port-good, out-of-range, in-range, finished}
 use borrow.Author.Needs.{needs}
 use Rattle.setting_calls.proofs.counter.counter.Statement.{statement}
 use Rattle.setting_calls.proofs.counter.counter.Tie as tie

@@ -4,7 +4,7 @@ use native.Mathlib.Omega.{arith}
 use borrow.Author.Tests.{le-leb, lt-leb}
 use Rattle.rules.specs.Refusals.{refusalNumber, queueSwitchLines}
 use Rattle.setting_calls.specs.Calls.{queueSwitchRefusals, queueSwitchCall}
-use Rattle.lent.proofs.Ends.{fixed-part, first-fails, second-fails, both-hold, too-short, long-enough, port-above, port-good, out-of-range, in-range}
+use Rattle.layout.proofs.Ends.{fixed-part, first-fails, second-fails, both-hold, too-short, long-enough, port-above, port-good, out-of-range, in-range}
 use borrow.Author.Needs.{needs}
 use Rattle.setting_calls.proofs.queue.queue_switch.Statement.{statement}
 use Rattle.setting_calls.proofs.queue.queue_switch.Tie as tie

@@ -1,2 +1,0 @@
-pub mod Leaving
-pub mod Draining

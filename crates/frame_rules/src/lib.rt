@@ -1,7 +1,0 @@
-// The rules for a frame that arrives, each alone: nothing is written.
-pub mod reasons; // their numbers
-pub mod counters; // and those of the counters
-pub mod plan; // what is decided before the first write
-pub mod arrival; // rules 1 to 9
-pub mod candidates; // the ports' tests
-pub mod room; // rules 12 and 13

@@ -1,0 +1,3 @@
+pub mod Memories
+pub mod Runs
+pub mod Asked

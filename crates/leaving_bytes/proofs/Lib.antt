@@ -1,3 +1,0 @@
-pub mod Headers
-pub mod Retagged
-pub mod Plain

@@ -1,2 +1,0 @@
-pub mod Operated
-pub mod TagRuns

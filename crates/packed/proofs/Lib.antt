@@ -1,9 +1,0 @@
-pub mod BitLaws
-pub mod RangeLaws
-pub mod OperationLaws
-pub mod PortLaws
-pub mod StateLaws
-pub mod SwitchLaws
-pub mod MapLaws
-pub mod FreshLaws
-pub mod SettingLaws

@@ -1,9 +1,0 @@
-pub mod Bits
-pub mod Ranges
-pub mod Operations
-pub mod Ports
-pub mod States
-pub mod Switches
-pub mod Maps
-pub mod Fresh
-pub mod Settings

@@ -1,2 +1,0 @@
-pub mod Vlans
-pub mod Placed

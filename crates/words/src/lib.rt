@@ -1,2 +1,0 @@
-// Words of link memory that stand alone.
-pub mod counter; // counters
