@@ -7,7 +7,7 @@ use native.Mathlib.Nat.{zero-add}
 use native.Mathlib.Omega.{arith}
 use lib.Dec.{ltb}
 use borrow.Author.Tests.{ltb-true, eq-eqb}
-use Rattle.cells.specs.Chains.{one, count}
+use Rattle.layout.specs.Counting.{one, times}
 
 -- each of the numbers is below n
 abbrev pub allBelow : ℕ → List ℕ → Bool
@@ -18,16 +18,16 @@ pub one-le : (b : Bool) → one b ≤ 1
 one-le true = omega arith
 one-le false = omega arith
 
-pub count-append : (c : ℕ) (xs ys : List ℕ) → count c (xs ++ ys) ≡ count c xs + count c ys
+pub count-append : (c : ℕ) (xs ys : List ℕ) → times c (xs ++ ys) ≡ times c xs + times c ys
 count-append c [] ys = rw zero-add
 count-append c (x ∷ xs) ys = omega (arith, count-append c xs ys)
 
 -- the first of a list is in it
-pub count-head : (c : ℕ) (xs : List ℕ) → count c (c ∷ xs) ≡ 1 + count c xs
+pub count-head : (c : ℕ) (xs : List ℕ) → times c (c ∷ xs) ≡ 1 + times c xs
 count-head c xs = rw (eq-eqb c c refl)
 
 -- what is not in a list is not its first
-pub count-ne : (c x : ℕ) (xs : List ℕ) → count c (x ∷ xs) ≡ 0 → x ≡ c → ⊥
+pub count-ne : (c x : ℕ) (xs : List ℕ) → times c (x ∷ xs) ≡ 0 → x ≡ c → ⊥
 count-ne c x xs h e = omega (arith, rw (eq-eqb x c e) at h)
 
 pub below-head : (n c : ℕ) (cs : List ℕ) → allBelow n (c ∷ cs) ≡ true → c < n
@@ -37,7 +37,7 @@ pub below-tail : (n c : ℕ) (cs : List ℕ) → allBelow n (c ∷ cs) ≡ true 
 below-tail n c cs h = and-eq-true-iff (ltb c n) (allBelow n cs) .0 h .1
 
 -- numbers that are counted only below n are below n
-pub counted-below : (n : ℕ) (xs : List ℕ) → ((c : ℕ) → count c xs ≤ one (ltb c n)) → allBelow n xs ≡ true
+pub counted-below : (n : ℕ) (xs : List ℕ) → ((c : ℕ) → times c xs ≤ one (ltb c n)) → allBelow n xs ≡ true
 counted-below n [] h = refl
 counted-below n (x ∷ xs) h =
     let rest : allBelow n xs ≡ true = counted-below n xs (λ c. omega (arith, h c)) in

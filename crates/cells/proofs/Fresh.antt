@@ -6,9 +6,10 @@ use native.Mathlib.Decide.{ℕ-discrete, decLt}
 use native.Mathlib.Omega.{arith}
 use lib.Dec.{eqb, ltb}
 use borrow.Author.Tests.{eq-eqb, ne-eqb, lt-ltb, le-ltb}
+use Rattle.layout.specs.Counting.{times, one}
 use Rattle.layout.specs.Cells.{clamped}
 use Rattle.layout.proofs.Cells.{clamped-below}
-use Rattle.cells.specs.Chains.{nextIn, next, follow, count, one}
+use Rattle.cells.specs.Chains.{nextIn, next, follow}
 use Rattle.cells.specs.Free.{portsOf, freeCells}
 use Rattle.cells.specs.Sound.{allWaiting, Sound, FreshCells}
 use Rattle.cells.proofs.Kept.{waiting-none}
@@ -25,19 +26,19 @@ module _ (n : ℕ) (l : List ℕ) (fresh : FreshCells n l) where
 
   -- the k cells from c on are c to c + k - 1
   pub record Run (k c d : ℕ) : Type 0 where
-    pub before : d < c → count d (follow n l k c) ≡ 0
-    pub inside : c ≤ d → d < c + k → count d (follow n l k c) ≡ 1
-    pub behind : c + k ≤ d → count d (follow n l k c) ≡ 0
+    pub before : d < c → times d (follow n l k c) ≡ 0
+    pub inside : c ≤ d → d < c + k → times d (follow n l k c) ≡ 1
+    pub behind : c + k ≤ d → times d (follow n l k c) ≡ 0
 
   run : (k c d : ℕ) → c + k ≤ n → Run k c d
   run zero c d h = record { before = λ b. refl; inside = λ b e. absurd (omega arith); behind = λ b. refl }
   run (suc k) c d h =
       let more : Run k (c + 1) d = run k (c + 1) d (omega arith) in
-      let tail : count d (follow n l k (next n l c)) ≡ count d (follow n l k (c + 1)) = ap (count d) (tail-is k c h) in
+      let tail : times d (follow n l k (next n l c)) ≡ times d (follow n l k (c + 1)) = ap (times d) (tail-is k c h) in
       elim (ℕ-discrete c d) as (λ _. Run (suc k) c d) [
         | yes e ↦
             let here : one (eqb c d) ≡ 1 = rw (eq-eqb c d e) in
-            let rest : count d (follow n l k (c + 1)) ≡ 0 = more .before (omega arith) in
+            let rest : times d (follow n l k (c + 1)) ≡ 0 = more .before (omega arith) in
             record { before = λ b. absurd (omega arith); inside = λ b f. omega arith; behind = λ b. absurd (omega arith) }
         | no e ↦
             let here : one (eqb c d) ≡ 0 = rw (ne-eqb c d e) in
@@ -55,7 +56,7 @@ module _ (n : ℕ) (l : List ℕ) (fresh : FreshCells n l) where
       record {
         once = λ c.
             let whole : Run n 0 c = run n 0 c (omega arith) in
-            elim (decLt c n) as (λ _. count c (freeCells n l) + count c (allWaiting n l n) ≡ one (ltb c n)) [
+            elim (decLt c n) as (λ _. times c (freeCells n l) + times c (allWaiting n l n) ≡ one (ltb c n)) [
               | yes h ↦
                   rw (free, waiting, lt-ltb c n h) (omega (arith, whole .inside (omega arith) (omega arith)))
               | no h ↦

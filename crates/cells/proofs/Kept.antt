@@ -8,10 +8,11 @@ use lib.ListN.{length, getD, set}
 use lib.Seq.{getD-set-same, getD-set-other}
 use lib.Dec.{ltb}
 use borrow.Author.Tests.{eq-eqb, ne-eqb}
+use Rattle.layout.specs.Counting.{times}
 use Rattle.layout.specs.Places.{linkWords, freeCountWord, firstFreeWord, nextWord, frameWord}
 use Rattle.layout.specs.Cells.{clamped}
 use Rattle.layout.proofs.Cells.{clamped-below}
-use Rattle.cells.specs.Chains.{nextIn, next, follow, walk, count}
+use Rattle.cells.specs.Chains.{nextIn, next, follow, walk}
 use Rattle.cells.specs.Free.{freeCount, firstFree, wordOf, sizeOf, portsOf, freeCells, frameCells, lastCell, taken, givenBack}
 use Rattle.cells.specs.Sound.{waitingCells, Sound}
 use Rattle.cells.proofs.Counts.{one-le, count-append, count-head}
@@ -57,34 +58,34 @@ module _ (n k ports : ℕ) (l : List ℕ) (long : linkWords n ≤ length l) (som
       rw (taken-count n k ports l long, taken-first n k ports l long, behind-walk n l (sound .nexts) k (firstFree l) some (t .first))
       (taken-follow n k ports l (freeCount l - k) (walk n l k (firstFree l)))
 
-  split : (c : ℕ) → count c (freeCells n l) ≡ count c (follow n l k (firstFree l)) + count c (follow n l (freeCount l - k) (walk n l k (firstFree l)))
+  split : (c : ℕ) → times c (freeCells n l) ≡ times c (follow n l k (firstFree l)) + times c (follow n l (freeCount l - k) (walk n l k (firstFree l)))
   split c =
       let sum : freeCount l ≡ k + (freeCount l - k) = omega arith in
-      ap (λ (f : ℕ). count c (follow n l f (firstFree l))) sum
-      ∙ ap (count c) (follow-split n l k (freeCount l - k) (firstFree l))
+      ap (λ (f : ℕ). times c (follow n l f (firstFree l))) sum
+      ∙ ap (times c) (follow-split n l k (freeCount l - k) (firstFree l))
       ∙ count-append c (follow n l k (firstFree l)) (follow n l (freeCount l - k) (walk n l k (firstFree l)))
 
   -- the cells taken are distinct, and in no frame that waits
-  pub taken-once : (c : ℕ) → count c (follow n l k (firstFree l)) ≤ 1
+  pub taken-once : (c : ℕ) → times c (follow n l k (firstFree l)) ≤ 1
   taken-once c = omega (arith, split c, sound .once c, one-le (ltb c n))
 
-  pub taken-apart : (s : ℕ) → s < n → (c : ℕ) → count c (follow n l k (firstFree l)) + count c (waitingCells n l s) ≤ 1
+  pub taken-apart : (s : ℕ) → s < n → (c : ℕ) → times c (follow n l k (firstFree l)) + times c (waitingCells n l s) ≤ 1
   taken-apart s h c = omega (arith, split c, waiting-in n l c s n h, sound .once c, one-le (ltb c n))
 
   -- no frame began at the first free cell
-  none-there : (c : ℕ) → count c (waitingCells n l (firstFree l)) ≡ 0
+  none-there : (c : ℕ) → times c (waitingCells n l (firstFree l)) ≡ 0
   none-there c =
-      elim (decLe 1 (portsOf l (firstFree l))) as (λ _. count c (waitingCells n l (firstFree l)) ≡ 0) [
+      elim (decLe 1 (portsOf l (firstFree l))) as (λ _. times c (waitingCells n l (firstFree l)) ≡ 0) [
         | yes p ↦
-            elim (decLe 1 (sizeOf l (firstFree l))) as (λ _. count c (waitingCells n l (firstFree l)) ≡ 0) [
+            elim (decLe 1 (sizeOf l (firstFree l))) as (λ _. times c (waitingCells n l (firstFree l)) ≡ 0) [
               | yes q ↦
                   absurd
                   (omega (
                     arith,
                     split (firstFree l),
-                    ap (count (firstFree l)) (follow-cons n l k (firstFree l) some),
+                    ap (times (firstFree l)) (follow-cons n l k (firstFree l) some),
                     count-head (firstFree l) (follow n l (k - 1) (next n l (firstFree l))),
-                    ap (count (firstFree l)) (waiting-some n l (firstFree l) p ∙ follow-cons n l (sizeOf l (firstFree l)) (firstFree l) q),
+                    ap (times (firstFree l)) (waiting-some n l (firstFree l) p ∙ follow-cons n l (sizeOf l (firstFree l)) (firstFree l) q),
                     count-head (firstFree l) (follow n l (sizeOf l (firstFree l) - 1) (next n l (firstFree l))),
                     waiting-in n l (firstFree l) (firstFree l) n (t .first),
                     sound .once (firstFree l),
@@ -92,9 +93,9 @@ module _ (n k ports : ℕ) (l : List ℕ) (long : linkWords n ≤ length l) (som
                   ))
               | no q ↦
                   let empty : sizeOf l (firstFree l) ≡ 0 = omega arith in
-                  ap (count c) (waiting-some n l (firstFree l) p) ∙ (rw empty)
+                  ap (times c) (waiting-some n l (firstFree l) p) ∙ (rw empty)
             ]
-        | no p ↦ ap (count c) (waiting-none n l (firstFree l) (omega arith))
+        | no p ↦ ap (times c) (waiting-none n l (firstFree l) (omega arith))
       ]
 
   pub taken-sound : Sound n (taken n k ports l)
@@ -104,10 +105,10 @@ module _ (n k ports : ℕ) (l : List ℕ) (long : linkWords n ≤ length l) (som
             omega (
               arith,
               split c,
-              ap (count c) free-taken,
+              ap (times c) free-taken,
               sound .once c,
               none-there c,
-              ap (count c) taken-waiting,
+              ap (times c) taken-waiting,
               all-change n l (taken n k ports l) c (firstFree l) n (t .first) (λ s h. taken-others s),
             );
         nexts = λ c h. rw (taken-next n k ports l c) (sound .nexts c h);
@@ -136,10 +137,10 @@ module _ (n s : ℕ) (l : List ℕ) (long : linkWords n ≤ length l) (first : s
       let sum : sizeOf l s ≡ sizeOf l s - 1 + 1 = omega (arith, some) in
       ap (λ (k : ℕ). follow n l k s) sum ∙ follow-split n l (sizeOf l s - 1) 1 s
 
-  ends-count : (c : ℕ) → count c (waitingCells n l s) ≡ count c (follow n l (sizeOf l s - 1) s) + count c (p ∷ [])
-  ends-count c = ap (count c) (waiting-some n l s waits ∙ ends) ∙ count-append c (follow n l (sizeOf l s - 1) s) (p ∷ [])
+  ends-count : (c : ℕ) → times c (waitingCells n l s) ≡ times c (follow n l (sizeOf l s - 1) s) + times c (p ∷ [])
+  ends-count c = ap (times c) (waiting-some n l s waits ∙ ends) ∙ count-append c (follow n l (sizeOf l s - 1) s) (p ∷ [])
 
-  last-once : (count p (follow n l (sizeOf l s - 1) s) ≡ 0) × (count p (freeCells n l) ≡ 0)
+  last-once : (times p (follow n l (sizeOf l s - 1) s) ≡ 0) × (times p (freeCells n l) ≡ 0)
   last-once = omega (arith, ends-count p, count-head p [], waiting-in n l p s n first, sound .once p, one-le (ltb p n))
 
   next-other : (c : ℕ) → (c ≡ p → ⊥) → nextIn (givenBack n s l) c ≡ nextIn l c
@@ -154,8 +155,8 @@ module _ (n s : ℕ) (l : List ℕ) (long : linkWords n ≤ length l) (first : s
   given-others r h ne =
       elim (decLe 1 (portsOf l r)) as (λ _. waitingCells n (givenBack n s l) r ≡ waitingCells n l r) [
         | yes w ↦
-            let none : count p (follow n l (sizeOf l r) r) ≡ 0 =
-            omega (arith, ap (count p) (waiting-some n l r w), ends-count p, count-head p [], two-in n l p r s n h first ne, sound .once p, one-le (ltb p n)) in
+            let none : times p (follow n l (sizeOf l r) r) ≡ 0 =
+            omega (arith, ap (times p) (waiting-some n l r w), ends-count p, count-head p [], two-in n l p r s n h first ne, sound .once p, one-le (ltb p n)) in
             waiting-same n l (givenBack n s l) r (given-ports-other n s l r ne) (rw (given-size-other n s l r ne) (follow-past n p l (givenBack n s l) next-other (sizeOf l r) r none))
         | no w ↦
             let none : portsOf l r ≡ 0 = omega arith in
@@ -186,11 +187,11 @@ module _ (n s : ℕ) (l : List ℕ) (long : linkWords n ≤ length l) (first : s
         once = λ c.
             omega (
               arith,
-              ap (count c) free-given,
+              ap (times c) free-given,
               count-append c (frameCells n l s) (freeCells n l),
               sound .once c,
-              ap (count c) (waiting-some n l s waits),
-              ap (count c) (waiting-none n (givenBack n s l) s (given-ports n s l long first)),
+              ap (times c) (waiting-some n l s waits),
+              ap (times c) (waiting-none n (givenBack n s l) s (given-ports n s l long first)),
               all-change n l (givenBack n s l) c s n first given-others,
             );
         nexts = λ c h.
@@ -244,7 +245,7 @@ module _ (n s word : ℕ) (l : List ℕ) (long : linkWords n ≤ length l) (wait
       let free : freeCells n fewer ≡ freeCells n l =
       rw (other-word freeCountWord (λ e. omega arith), other-word firstFreeWord (λ e. omega arith)) (same-cells (freeCount l) (firstFree l)) in
       record {
-        once = λ c. omega (arith, ap (count c) free, ap (count c) (all-same n l fewer n same-waiting), sound .once c);
+        once = λ c. omega (arith, ap (times c) free, ap (times c) (all-same n l fewer n same-waiting), sound .once c);
         nexts = λ c h. rw (other-word (nextWord c) (λ e. omega arith)) (sound .nexts c h);
         first = rw (other-word firstFreeWord (λ e. omega arith)) (sound .first);
       }

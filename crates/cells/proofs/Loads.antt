@@ -9,8 +9,9 @@ use native.Mathlib.Decide.{decLe}
 use native.Mathlib.Omega.{arith}
 use lib.ListN.{length, take, drop, length-append, length-take, length-drop, take-append-drop}
 use lib.Seq.{sets, length-sets, take-all, take-append-le, take-append-add, take-take, drop-append-le, drop-append-seam}
+use Rattle.layout.specs.Counting.{times}
 use Rattle.slices.proofs.Runs.{part-before, part-after, part-run}
-use Rattle.cells.specs.Chains.{next, follow, count}
+use Rattle.cells.specs.Chains.{next, follow}
 use Rattle.cells.specs.Bytes.{storeCells, loadCells, headerIn, frontIn, frameIn}
 use Rattle.cells.proofs.Counts.{allBelow, count-head, count-ne, below-head, below-tail}
 use Rattle.cells.proofs.Steps.{follow-cons}
@@ -40,14 +41,14 @@ cell-over c d mem bytes ne h =
     ]
 
 -- a cell that is not in the chain is as it was
-pub cell-store : (d : ℕ) (mem cs bytes : List ℕ) → count d cs ≡ 0 → take 80 (drop (80 * d) (storeCells mem cs bytes)) ≡ take 80 (drop (80 * d) mem)
+pub cell-store : (d : ℕ) (mem cs bytes : List ℕ) → times d cs ≡ 0 → take 80 (drop (80 * d) (storeCells mem cs bytes)) ≡ take 80 (drop (80 * d) mem)
 cell-store d mem [] bytes h = refl
 cell-store d mem (c ∷ cs) bytes h =
     cell-store d (sets mem (80 * c) (take 80 bytes)) cs (drop 80 bytes) (omega arith)
     ∙ cell-over c d mem (take 80 bytes) (λ e. count-ne d c cs h (sym e)) (short bytes)
 
 -- a chain that shares no cell with the one stored into is read as before
-pub load-other : (mem cs ds bytes : List ℕ) → ((c : ℕ) → count c cs + count c ds ≤ 1) → loadCells (storeCells mem cs bytes) ds ≡ loadCells mem ds
+pub load-other : (mem cs ds bytes : List ℕ) → ((c : ℕ) → times c cs + times c ds ≤ 1) → loadCells (storeCells mem cs bytes) ds ≡ loadCells mem ds
 load-other mem cs [] bytes h = refl
 load-other mem cs (d ∷ ds) bytes h =
     ap₂ _++_ (cell-store d mem cs bytes (omega (arith, h d, count-head d ds))) (load-other mem cs ds bytes (λ c. omega (arith, h c)))
@@ -66,7 +67,7 @@ joined x rest bytes lx hx hr =
           ap (λ (n : ℕ). take n (x ++ rest)) long ∙ take-append-add x rest (length (drop 80 bytes)) ∙ ap₂ _++_ first hr ∙ take-append-drop 80 bytes
     ]
 
-pub load-stored : (n : ℕ) (mem cs bytes : List ℕ) → 80 * n ≤ length mem → allBelow n cs ≡ true → ((c : ℕ) → count c cs ≤ 1) → length bytes ≤ 80 * length cs
+pub load-stored : (n : ℕ) (mem cs bytes : List ℕ) → 80 * n ≤ length mem → allBelow n cs ≡ true → ((c : ℕ) → times c cs ≤ 1) → length bytes ≤ 80 * length cs
     → take (length bytes) (loadCells (storeCells mem cs bytes) cs) ≡ bytes
 load-stored n mem [] [] f b d h = refl
 load-stored n mem [] (x ∷ bytes) f b d h = absurd (omega arith)
@@ -82,7 +83,7 @@ load-stored n mem (c ∷ cs) bytes f b d h =
     (load-stored n first cs (drop 80 bytes) (omega arith) (below-tail n c cs b) (λ x. omega (arith, d x)) (simp length-drop (omega arith)))
 
 -- a frame that was stored behind n its header, and the header
-module _ (n : ℕ) (mem cs header frame : List ℕ) (fits : 80 * n ≤ length mem) (below : allBelow n cs ≡ true) (distinct : (c : ℕ) → count c cs ≤ 1)
+module _ (n : ℕ) (mem cs header frame : List ℕ) (fits : 80 * n ≤ length mem) (below : allBelow n cs ≡ true) (distinct : (c : ℕ) → times c cs ≤ 1)
     (eight : length header ≡ 8) (room : 8 + length frame ≤ 80 * length cs) where
   stored : List ℕ
   stored = loadCells (storeCells mem cs (header ++ frame)) cs
@@ -97,8 +98,8 @@ module _ (n : ℕ) (mem cs header frame : List ℕ) (fits : 80 * n ≤ length me
   pub frame-stored : frameIn (storeCells mem cs (header ++ frame)) cs (length frame) ≡ frame
   unfolding stored frameIn
   frame-stored =
-      let count : 8 + length frame - 8 ≡ length frame = omega arith in
-      ap (λ (m : ℕ). take m (drop 8 stored)) (sym count)
+      let times : 8 + length frame - 8 ≡ length frame = omega arith in
+      ap (λ (m : ℕ). take m (drop 8 stored)) (sym times)
       ∙ sym (drop-take 8 (8 + length frame) stored (omega arith))
       ∙ ap (drop 8) all-bytes
       ∙ (rw eight at (drop-append-seam header frame))

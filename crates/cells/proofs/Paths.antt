@@ -5,8 +5,9 @@ use Prim.Native.Nat.{ℕ, zero, suc, _+_, _-_, _≤_, _<_}
 use native.Mathlib.Nat.{zero-add, suc-add}
 use native.Mathlib.Omega.{arith}
 use lib.ListN.{length}
+use Rattle.layout.specs.Counting.{times}
 use Rattle.layout.proofs.Cells.{clamped-below}
-use Rattle.cells.specs.Chains.{nextIn, next, follow, walk, behind, count}
+use Rattle.cells.specs.Chains.{nextIn, next, follow, walk, behind}
 use Rattle.cells.proofs.Counts.{count-ne}
 use Rattle.cells.proofs.Steps.{walk-in}
 
@@ -38,10 +39,10 @@ module _ (n : ℕ) where
 
   module _ (p : ℕ) (l m : List ℕ) (h : (c : ℕ) → (c ≡ p → ⊥) → nextIn m c ≡ nextIn l c) where
     -- a chain that does not go through p, where only p's next word is another
-    pub follow-past : (k c : ℕ) → count p (follow n l k c) ≡ 0 → follow n m k c ≡ follow n l k c
+    pub follow-past : (k c : ℕ) → times p (follow n l k c) ≡ 0 → follow n m k c ≡ follow n l k c
     follow-past zero c z = refl
     follow-past (suc k) c z = rw (h c (count-ne p c (follow n l k (next n l c)) z), follow-past k (next n l c) (omega arith))
 
-    pub walk-past : (k c : ℕ) → count p (follow n l k c) ≡ 0 → walk n m k c ≡ walk n l k c
+    pub walk-past : (k c : ℕ) → times p (follow n l k c) ≡ 0 → walk n m k c ≡ walk n l k c
     walk-past zero c z = refl
     walk-past (suc k) c z = rw (h c (count-ne p c (follow n l k (next n l c)) z)) (walk-past k (next n l c) (omega arith))

@@ -6,8 +6,8 @@ use Prim.Native.Nat.{ℕ, _+_, _≤_, _<_}
 use native.Mathlib.Omega.{arith}
 use lib.ListN.{length}
 use borrow.Author.Tests.{le-leb, lt-leb, lt-ltb}
+use Rattle.layout.specs.Counting.{times, one}
 use Rattle.cells.specs.declared.free.Room.the-variants.{Enough, NoRoom}
-use Rattle.cells.specs.Chains.{count, one}
 use Rattle.cells.specs.Free.{freeCount, firstFree, sizeOf, portsOf, freeCells, roomFor, isFrame, canGiveBack}
 use Rattle.cells.specs.Sound.{waitingCells, allWaiting, Sound}
 use Rattle.cells.proofs.Counts.{allBelow, counted-below}
@@ -25,8 +25,8 @@ module _ (n : ℕ) (l : List ℕ) (sound : Sound n l) where
   -- the free cells and those of the waiting frames are all cells
   pub all-cells : freeCount l + length (allWaiting n l n) ≡ n
   all-cells =
-      let free : ℕ → ℕ = λ c. count c (freeCells n l) in
-      let waiting : ℕ → ℕ = λ c. count c (allWaiting n l n) in
+      let free : ℕ → ℕ = λ c. times c (freeCells n l) in
+      let waiting : ℕ → ℕ = λ c. times c (allWaiting n l n) in
       omega (
         arith,
         length-follow n l (freeCount l) (firstFree l),

@@ -8,7 +8,7 @@ use native.Mathlib.Omega.{arith}
 use lib.ListN.{length, length-append}
 use lib.Dec.{eqb}
 use borrow.Author.Tests.{eq-eqb, ne-eqb}
-use Rattle.cells.specs.Chains.{one, count}
+use Rattle.layout.specs.Counting.{one, times}
 use Rattle.cells.specs.Sound.{waitingCells, allWaiting}
 use Rattle.cells.proofs.Counts.{allBelow, below-head, below-tail}
 
@@ -51,12 +51,12 @@ total-one x (suc n) h =
           omega (arith, total-one x n (omega arith))
     ]
 
-pub length-total : (n : ℕ) (xs : List ℕ) → allBelow n xs ≡ true → length xs ≡ total (λ c. count c xs) n
+pub length-total : (n : ℕ) (xs : List ℕ) → allBelow n xs ≡ true → length xs ≡ total (λ c. times c xs) n
 length-total n [] b = sym (total-zero n)
 length-total n (x ∷ xs) b =
     omega (
       arith,
-      total-sum (λ c. one (eqb x c)) (λ c. count c xs) n,
+      total-sum (λ c. one (eqb x c)) (λ c. times c xs) n,
       total-one x n (below-head n x xs b),
       length-total n xs (below-tail n x xs b),
     )

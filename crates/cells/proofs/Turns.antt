@@ -202,9 +202,9 @@ module _ (n : ℕ) (l : List ℕ) (c : ℕ) where
       pub whole-short : long ≤ 72
           → sets out 0 (take (80 * c + 8 + long - (80 * c + 8)) (drop (80 * c + 8) mem)) ≡ loadFrom 0 out mem 0 long (follow n l (cells long) c)
       whole-short h =
-          let count : 80 * c + 8 + 0 + (long - 0) - (80 * c + 8 + 0) ≡ 80 * c + 8 + long - (80 * c + 8) = omega arith in
+          let times : 80 * c + 8 + 0 + (long - 0) - (80 * c + 8 + 0) ≡ 80 * c + 8 + long - (80 * c + 8) = omega arith in
           let place : 80 * c + 8 + 0 ≡ 80 * c + 8 = omega arith in
-          rw (count, place) at (load-short mem out fits 0 0 (omega arith) (omega arith) h)
+          rw (times, place) at (load-short mem out fits 0 0 (omega arith) (omega arith) h)
 
       pub whole-long : 72 < long
           → sets (sets out 0 (take 72 (drop (80 * c + 8) mem))) 72 (take (long - 72) (loadCells mem (follow n l (cellsFor (long - 72)) (next n l c))))

@@ -3,8 +3,9 @@ use mathlib.Core.Path.{_≡_, ap, ap₂, _∙_}
 use mathlib.Core.List.{List}
 use Prim.Native.Nat.{ℕ}
 use native.Mathlib.Omega.{arith}
+use Rattle.layout.specs.Counting.{times}
 use Rattle.layout.specs.Same.{CellsSame}
-use Rattle.cells.specs.Chains.{follow, count}
+use Rattle.cells.specs.Chains.{follow}
 use Rattle.cells.specs.Free.{freeCount, firstFree, sizeOf, portsOf, freeCells, frameCells}
 use Rattle.cells.specs.Sound.{waitingCells, Sound}
 use Rattle.cells.proofs.Paths.{follow-same}
@@ -34,7 +35,7 @@ module _ {l m : List ℕ} (same : CellsSame l m) where
   pub same-sound : {n : ℕ} → Sound n l → Sound n m
   same-sound {n} sound =
       record {
-        once = λ c. omega (arith, ap (count c) (same-free n), ap (count c) (all-same n l m n (λ s h. same-waiting n s)), sound .once c);
+        once = λ c. omega (arith, ap (times c) (same-free n), ap (times c) (all-same n l m n (λ s h. same-waiting n s)), sound .once c);
         nexts = λ c h. rw (same .next c) (sound .nexts c h);
         first = rw (same .firstFree) (sound .first);
       }

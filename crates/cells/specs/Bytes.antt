@@ -8,7 +8,7 @@ use Rattle.cells.specs.Chains.{follow, behind}
 
 -- the least whole number of cells that hold so many bytes
 abbrev pub cellsFor : ℕ → ℕ
-cellsFor count = (count + (cellSize - 1)) / cellSize
+cellsFor times = (times + (cellSize - 1)) / cellSize
 
 -- "what lies behind the last byte in the last cell keeps what was there before"
 abbrev pub storeCells : List ℕ → List ℕ → List ℕ → List ℕ
@@ -29,7 +29,7 @@ abbrev pub headerIn : List ℕ → ℕ → List ℕ
 headerIn cells c = take headerSize (drop (cellSize * c) cells)
 
 abbrev pub frontIn : List ℕ → ℕ → ℕ → List ℕ
-frontIn cells c count = take count (drop (cellSize * c + headerSize) cells)
+frontIn cells c times = take times (drop (cellSize * c + headerSize) cells)
 
 -- the bytes of a frame of this length over the cells of a chain
 unfoldable pub frameIn : List ℕ → List ℕ → ℕ → List ℕ

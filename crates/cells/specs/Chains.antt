@@ -1,10 +1,8 @@
 -- Cells one after another by their next words, of n cells, for any contents of link memory: cycles and shared cells
 -- included. Assumes nothing.
-use Prim.Native.Nat.{ℕ, zero, suc, _+_, _-_}
-use mathlib.Core.Bool.{Bool, true, false}
+use Prim.Native.Nat.{ℕ, zero, suc, _-_}
 use mathlib.Core.List.{List, [], _∷_}
 use lib.ListN.{getD}
-use lib.Dec.{eqb}
 use Rattle.layout.specs.Places.{nextWord}
 use Rattle.layout.specs.Cells.{clamped}
 
@@ -28,14 +26,3 @@ walk n links (suc k) c = walk n links k (next n links c)
 -- the next word of the last of them
 abbrev pub behind : ℕ → List ℕ → ℕ → ℕ → ℕ
 behind n links k c = nextIn links (walk n links (k - 1) c)
-
--- ---- counting
-
-abbrev pub one : Bool → ℕ
-one true = 1
-one false = 0
-
--- how often c stands in a list
-abbrev pub count : ℕ → List ℕ → ℕ
-count c [] = zero
-count c (x ∷ xs) = one (eqb x c) + count c xs

@@ -3,8 +3,9 @@ use Prim.Native.Nat.{ℕ, zero, suc, _+_, _<_}
 use mathlib.Core.Path.{_≡_}
 use mathlib.Core.List.{List, [], _++_}
 use lib.Dec.{eqb, ltb}
+use Rattle.layout.specs.Counting.{times, one}
 use Rattle.rules.specs.Choice.{if_then_else_}
-use Rattle.cells.specs.Chains.{nextIn, count, one}
+use Rattle.cells.specs.Chains.{nextIn}
 use Rattle.cells.specs.Free.{freeCount, firstFree, portsOf, freeCells, frameCells}
 
 -- the cells of the frame whose first cell is c: none where no frame waits, for its frame word has no port there
@@ -18,7 +19,7 @@ allWaiting n links (suc m) = allWaiting n links m ++ waitingCells n links m
 
 -- A next word is met as the first free cell, which has a range, when its cell was the last that was taken.
 pub record Sound (n : ℕ) (links : List ℕ) : Type 0 where
-  pub once : (c : ℕ) → count c (freeCells n links) + count c (allWaiting n links n) ≡ one (ltb c n)
+  pub once : (c : ℕ) → times c (freeCells n links) + times c (allWaiting n links n) ≡ one (ltb c n)
   pub nexts : (c : ℕ) → c < n → nextIn links c < n
   pub first : firstFree links < n
 

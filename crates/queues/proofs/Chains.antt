@@ -5,10 +5,11 @@ use mathlib.Core.List.{List, [], _∷_}
 use native.Mathlib.Omega.{arith}
 use lib.ListN.{length}
 use borrow.Author.Tests.{eq-eqb, ne-eqb}
+use Rattle.layout.specs.Counting.{times}
 use Rattle.rules.specs.Choice.{Each, also}
 use Rattle.rules.proofs.Choice.{each-first, each-rest}
 use Rattle.queues.specs.Lists.{waitingOf, oldestOf, youngestOf, behindOf, bit, listFrom, listOf}
-use Rattle.queues.specs.Queued.{times, some, Behind, Chained, Queued}
+use Rattle.queues.specs.Queued.{some, Behind, Chained, Queued}
 use Rattle.layout.proofs.Cells.{clamped-below}
 use Rattle.queues.proofs.Counts.{times-here, times-rest, at-most}
 

@@ -7,12 +7,13 @@ use mathlib.Core.List.{List, [], _∷_, _++_}
 use native.Mathlib.Omega.{arith}
 use lib.Dec.{eqb}
 use lib.ListN.{length}
+use Rattle.layout.specs.Counting.{times}
 use Rattle.rules.specs.Choice.{if_then_else_}
 use Rattle.rules.proofs.Choice.{on}
 use Rattle.layout.specs.Places.{linkWords}
 use Rattle.layout.specs.Same.{QueuesSame}
 use Rattle.queues.specs.Lists.{waitingOf, youngestOf, behindOf, clamped, oldestCell, bit, listFrom, listOf, pushed, popped}
-use Rattle.queues.specs.Queued.{times, AllQueued, left}
+use Rattle.queues.specs.Queued.{AllQueued, left}
 use Rattle.queues.proofs.Changes.{list-is, queues-read, queues-same}
 use Rattle.queues.proofs.Pushes.{queues-pushed, joined-here, joined-other}
 use Rattle.queues.proofs.Pops.{queues-popped, left-here, left-other}

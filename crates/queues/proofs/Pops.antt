@@ -7,11 +7,12 @@ use lib.Dec.{eqb}
 use lib.ListN.{length, getD, set}
 use lib.Seq.{getD-set-same, getD-set-other}
 use borrow.Author.Tests.{eqb-true, eqb-false}
+use Rattle.layout.specs.Counting.{times}
 use Rattle.rules.specs.Choice.{nobody}
 use Rattle.rules.proofs.Choice.{on, onList, eqb-self, each-first, each-rest}
 use Rattle.layout.specs.Places.{linkWords, waitingWord, oldestWord, youngestWord, behindWord}
 use Rattle.queues.specs.Lists.{waitingOf, oldestOf, youngestOf, behindOf, clamped, oldestCell, bit, withoutBit, popped}
-use Rattle.queues.specs.Queued.{times, some, Behind, Queued, Queues, left}
+use Rattle.queues.specs.Queued.{some, Behind, Queued, Queues, left}
 use Rattle.queues.proofs.WaitingBits.{without-same, without-other}
 use Rattle.layout.proofs.Cells.{clamped-below}
 use Rattle.queues.proofs.Outcomes.{pop-last, pop-first, popped-at}

@@ -8,11 +8,12 @@ use lib.Dec.{eqb}
 use lib.ListN.{length, getD, set, length-set}
 use lib.Seq.{getD-set-same, getD-set-other}
 use borrow.Author.Tests.{eqb-true, eqb-false}
+use Rattle.layout.specs.Counting.{times}
 use Rattle.rules.specs.Choice.{nobody, also}
 use Rattle.rules.proofs.Choice.{on, onList, eqb-self, each-append}
 use Rattle.layout.specs.Places.{linkWords, waitingWord, oldestWord, youngestWord, behindWord}
 use Rattle.queues.specs.Lists.{waitingOf, oldestOf, youngestOf, behindOf, bit, withBit, pushed}
-use Rattle.queues.specs.Queued.{times, some, Behind, Queued, Queues, joined}
+use Rattle.queues.specs.Queued.{some, Behind, Queued, Queues, joined}
 use Rattle.queues.proofs.WaitingBits.{with-same, with-other}
 use Rattle.layout.proofs.Cells.{clamped-below}
 use Rattle.queues.proofs.Outcomes.{push-behind, push-first}

@@ -5,15 +5,11 @@ use mathlib.Core.Path.{_≡_}
 use mathlib.Core.Bool.{Bool, true, false, _&&_}
 use mathlib.Core.List.{List, [], _∷_, _++_}
 use lib.Dec.{eqb}
+use Rattle.layout.specs.Counting.{times}
 use Rattle.rules.specs.Choice.{if_then_else_, Each}
 use Rattle.queues.specs.declared.Highest.{Highest}
 use Rattle.queues.specs.declared.Highest.the-variants.{Queue, Nothing}
 use Rattle.queues.specs.Lists.{waitingOf, oldestOf, youngestOf, behindOf, bit, listOf}
-
--- how often a number stands in a list
-unfoldable pub times : ℕ → List ℕ → ℕ
-times c [] = 0
-times c (m ∷ ms) = (if eqb c m then 1 else 0) + times c ms
 
 unfoldable pub some : List ℕ → Bool
 some [] = false

@@ -10,6 +10,7 @@ use lib.Dec.{eqb}
 use lib.ListN.{length, take, drop}
 use lib.Seq.{take-take}
 use borrow.Author.Tests.{eqb-false}
+use Rattle.layout.specs.Counting.{times}
 use Rattle.rules.specs.Choice.{sift, among, without, changed, Distinct, Each, nobody, also}
 use Rattle.rules.specs.Cells.{longest}
 use Rattle.rules.specs.Cells as Rules
@@ -18,7 +19,7 @@ use Rattle.rules.specs.Numbers.{allPorts}
 use Rattle.rules.proofs.Choice.{onList, each-append, each-map, each-zip, eqb-self}
 use Rattle.machine.specs.Waiting.{Waiting, size, send, join}
 use Rattle.machine.specs.FrameIn.{mask}
-use Rattle.cells.specs.Chains.{follow, count}
+use Rattle.cells.specs.Chains.{follow}
 use Rattle.cells.specs.Free.{freeCount, firstFree, wordOf, sizeOf, portsOf, frameCells, givenBack}
 use Rattle.cells.specs.Bytes.{storeCells, headerIn, frameIn}
 use Rattle.cells.specs.Stored.{storedBytes, storedOf}
@@ -123,23 +124,23 @@ module _ (n : ℕ) (cells links : List ℕ) (ws : List Waiting) (T : Traffic n c
   small : mask (p₀ ∷ ps) < 32
   small = Arrivals.small n links ws K f p₀ ps enough low inside distinct ascending somewhere few
 
-  once : (c : ℕ) → count c chain ≤ 1
+  once : (c : ℕ) → times c chain ≤ 1
   once = taken-once n (size f) (mask (p₀ ∷ ps)) links (K .long) one somewhere small taking (K .sound)
 
   -- the chain of another frame shares no cell with the new one
-  others-apart : (j : ℕ) → WaitsAs n links j (K .held j) → (c : ℕ) → count c chain + count c (frameCells n links j) ≤ 1
+  others-apart : (j : ℕ) → WaitsAs n links j (K .held j) → (c : ℕ) → times c chain + times c (frameCells n links j) ≤ 1
   others-apart j h c =
       let some : 1 ≤ portsOf links j = rw (h .said) (h .somewhere) in
       rw (waiting-some n links j some) at (taken-apart n (size f) (mask (p₀ ∷ ps)) links (K .long) one somewhere small taking (K .sound) j (h .below) c)
 
-  not-in-chain : (j : ℕ) → WaitsAs n links j (K .held j) → HoldsFrame n cells links j (K .held j) → count j chain ≡ 0
+  not-in-chain : (j : ℕ) → WaitsAs n links j (K .held j) → HoldsFrame n cells links j (K .held j) → times j chain ≡ 0
   not-in-chain j h g =
       let k : ℕ = sizeOf links j - 1 in
       let row : frameCells n links j ≡ j ∷ follow n links k (Rattle.cells.specs.Chains.next n links j) =
       ap (λ (m : ℕ). follow n links m j) (let z : sizeOf links j ≡ Prim.Native.Nat.suc k = omega (arith, g .size) in z) in
-      omega (arith, others-apart j h j, ap (count j) row, count-head j (follow n links k (Rattle.cells.specs.Chains.next n links j)))
+      omega (arith, others-apart j h j, ap (times j) row, count-head j (follow n links k (Rattle.cells.specs.Chains.next n links j)))
 
-  header-kept : (j : ℕ) → count j chain ≡ 0 → headerIn filled j ≡ headerIn cells j
+  header-kept : (j : ℕ) → times j chain ≡ 0 → headerIn filled j ≡ headerIn cells j
   header-kept j none =
       sym (take-take 8 80 (drop (80 * j) filled) (omega arith))
       ∙ ap (take 8) (cell-store j cells chain (storedBytes (storedHeader operation f) ++ f .packet .bytes) none)

@@ -1,18 +1,17 @@
 -- A fresh switch's memory stands for no traffic: all cells are free. Assumes nothing.
 use Prim.Native.Nat.{ℕ, zero, suc, _≤_, _<_}
-use mathlib.Core.Path.{_≡_, refl, ap, _∙_}
+use mathlib.Core.Path.{_≡_, refl, ap}
 use mathlib.Core.Bool.{Bool, true, false}
-use mathlib.Core.List.{List, [], _∷_}
+use mathlib.Core.List.{List, []}
 use native.Mathlib.Omega.{arith}
-use lib.Dec.{eqb, ltb}
+use lib.Dec.{ltb}
 use lib.ListN.{length}
+use Rattle.layout.specs.Counting.{times, one}
 use Rattle.rules.specs.Choice.{if_then_else_, sift, nobody}
 use Rattle.rules.specs.Settings.{noOperation}
-use Rattle.rules.proofs.Choice.{on, eqb-sym}
 use Rattle.machine.specs.Waiting.{Waiting, cellsInUse}
 use Rattle.layout.specs.Places.{linkWords, cellBytes}
-use Rattle.cells.specs.Chains.{count, one}
-use Rattle.cells.specs.Free.{freeCount, firstFree, freeCells}
+use Rattle.cells.specs.Free.{freeCount, firstFree}
 use Rattle.cells.specs.Sound.{allWaiting, Sound, FreshCells}
 use Rattle.cells.proofs.Paths.{length-follow}
 use Rattle.cells.proofs.Kept.{waiting-none}
@@ -20,17 +19,9 @@ use Rattle.cells.proofs.Fresh.{fresh-sound}
 use Rattle.queues.specs.Lists.{waitingOf}
 use Rattle.queues.proofs.Fresh.{fresh-list, fresh-all}
 use Rattle.queues.proofs.WaitingWords.{words-none}
-use Rattle.standing.specs.Links.{times, rowsOf, Stands}
+use Rattle.standing.specs.Links.{rowsOf, Stands}
 use Rattle.standing.specs.LinkTraffic.{linksIn}
 use Rattle.standing.specs.Traffic.{Traffic}
-
-times-is-count : (c : ℕ) (xs : List ℕ) → times c xs ≡ count c xs
-unfolding times
-times-is-count c [] = refl
-times-is-count c (x ∷ xs) =
-    on (eqb c x)
-    (λ e. rw (e, eqb-sym x c ∙ e) (omega (arith, times-is-count c xs)))
-    (λ e. rw (e, eqb-sym x c ∙ e) (omega (arith, times-is-count c xs)))
 
 one-is : (b : Bool) → one b ≡ (if b then 1 else 0)
 one-is true = refl
@@ -61,14 +52,14 @@ module _ (n : ℕ) (links : List ℕ) (some : 1 ≤ n) (long : linkWords n ≤ l
   sound = fresh-sound n links fresh some
 
   stands : Stands n (linksIn n links nobody-waits) []
-  unfolding linksIn rowsOf times cellsInUse sift
+  unfolding linksIn rowsOf cellsInUse sift
   stands =
       record {
         ids = [];
         holds = refl;
         rows = nobody;
         lists = fresh-list n links empty;
-        cells = λ c. omega (arith, times-is-count c (freeCells n links), sound .once c, ap (count c) (none-waiting n (omega arith)), one-is (ltb c n));
+        cells = λ c. omega (arith, sound .once c, ap (times c) (none-waiting n (omega arith)), one-is (ltb c n));
         room = omega (arith, length-follow n links (freeCount links) (firstFree links), fresh .free);
       }
 

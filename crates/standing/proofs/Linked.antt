@@ -7,17 +7,18 @@ use native.Mathlib.Omega.{arith}
 use lib.Dec.{eqb, ltb}
 use lib.ListN.{length, length-append}
 use borrow.Author.Tests.{eqb-true}
+use Rattle.layout.specs.Counting.{one, times}
 use Rattle.rules.specs.Choice.{if_then_else_, sift, among, without, changed, Each, nobody, also}
 use Rattle.rules.specs.Outcomes.{Frame}
 use Rattle.machine.specs.Waiting.{Waiting, size, cellsInUse, waitsAt, stay, leave, send, join}
-use Rattle.standing.specs.Links.{times, Links, rowsOf, RowOk, Stands, linkIn, freed, linkOut}
-use Rattle.rules.proofs.Choice.{on, each-append, each-front, each-back, each-first, each-map, each-zip, eqb-self, among-without-same, among-without-other}
+use Rattle.standing.specs.Links.{Links, rowsOf, RowOk, Stands, linkIn, freed, linkOut}
+use Rattle.rules.proofs.Choice.{on, each-append, each-front, each-back, each-first, each-map, each-zip, eqb-self, eqb-sym, among-without-same, among-without-other}
 use Rattle.machine.proofs.Waits.{in-use-append, other-queue}
 
 -- ---- lists
 
 pub times-append : (c : ℕ) (xs ys : List ℕ) → times c (xs ++ ys) ≡ times c xs + times c ys
-unfolding times changed
+unfolding changed
 times-append c [] ys = omega arith
 times-append c (x ∷ xs) ys = omega (arith, times-append c xs ys)
 
@@ -56,8 +57,8 @@ sift-other t i a f nobody = refl
 sift-other t i a f (also {a = j} h r) = rw (h, sift-other t i a f r)
 
 -- a frame's first cell stands in its row
-pub row-times : (l : Links) (c i : ℕ) (ok : RowOk l i) → times c (l .row i) ≡ (if eqb c i then 1 else 0) + times c (ok .more)
-unfolding times changed
+pub row-times : (l : Links) (c i : ℕ) (ok : RowOk l i) → times c (l .row i) ≡ one (eqb i c) + times c (ok .more)
+unfolding changed
 row-times l c i ok = ap (times c) (ok .starts)
 
 -- a cell that is in no row is no frame's first
@@ -65,10 +66,12 @@ pub not-first : (l : Links) (c : ℕ) {ids : List ℕ} → Each (RowOk l) ids �
 unfolding rowsOf changed
 not-first l c nobody z = nobody
 not-first l c (also {a = i} {rest = ids} ok t) z =
-    let d : (if eqb c i then 1 else 0) + times c (ok .more) + times c (rowsOf (l .row) ids) ≡ 0
+    let d : one (eqb i c) + times c (ok .more) + times c (rowsOf (l .row) ids) ≡ 0
     = omega (arith, times-append c (l .row i) (rowsOf (l .row) ids), row-times l c i ok, z) in
     also
-    (on (eqb c i) (λ e. let b : 1 + times c (ok .more) + times c (rowsOf (l .row) ids) ≡ 0 = rw e at d in absurd (omega arith)) (λ e. e))
+    (on (eqb i c)
+    (λ e. let b : 1 + times c (ok .more) + times c (rowsOf (l .row) ids) ≡ 0 = rw e at d in absurd (omega arith))
+    (λ e. eqb-sym c i ∙ e))
     (not-first l c t (omega arith))
 
 pub rows-kept : (l m : Links) {ids : List ℕ} → Each (RowOk l) ids → Each (λ (j : ℕ). (m .row j ≡ l .row j) × (m .held j .frame ≡ l .held j .frame)) ids → Each (RowOk m) ids
@@ -87,8 +90,8 @@ module _ (n : ℕ) (l : Links) (ws : List Waiting) (S : Stands n l ws) (f : Fram
   new = linkIn f (p₀ ∷ ps) rest i more l
 
   -- the cells that come from the free ones
-  pub free-times : (c : ℕ) → times c (l .free) ≡ (if eqb c i then 1 else 0) + times c more + times c rest
-  unfolding times changed
+  pub free-times : (c : ℕ) → times c (l .free) ≡ one (eqb i c) + times c more + times c rest
+  unfolding changed
   free-times c = ap (times c) cut ∙ times-append c (i ∷ more) rest
 
   pub others : Not i (S .ids)
@@ -118,7 +121,7 @@ module _ (n : ℕ) (l : Links) (ws : List Waiting) (S : Stands n l ws) (f : Fram
       (on (among p (p₀ ∷ ps) && eqb q (f .queue)) (λ e. rw e) (λ e. rw e (sym (append-nil (l .list p q)))))
 
   pub in-cells : (c : ℕ) → times c (new .free) + times c (rowsOf (new .row) (S .ids ++ (i ∷ []))) ≡ (if ltb c n then 1 else 0)
-  unfolding linkIn rowsOf times changed
+  unfolding linkIn rowsOf changed
   in-cells c =
       rw (rows-append (changed i (i ∷ more) (l .row)) (S .ids) (i ∷ []), rows-other i (i ∷ more) (l .row) others, eqb-self i)
       (omega (arith, times-append c (rowsOf (l .row) (S .ids)) (i ∷ more ++ []), ap (times c) (append-nil (i ∷ more)), free-times c, S .cells c))

@@ -3,8 +3,9 @@ use Prim.Native.Nat.{ℕ, _+_, _<_}
 use mathlib.Core.Path.{_≡_}
 use mathlib.Core.List.{List}
 use borrow.Author.Tests.{lt-ltb}
+use Rattle.layout.specs.Counting.{times}
 use Rattle.machine.specs.Waiting.{Waiting}
-use Rattle.standing.specs.Links.{times, Links, rowsOf, Stands}
+use Rattle.standing.specs.Links.{Links, rowsOf, Stands}
 use Rattle.standing.specs.TrafficTheorems.{TrafficTheorems}
 use Rattle.standing.proofs.Linked.{stands-in, stands-out}
 use Rattle.standing.proofs.Reading.{list-is-queue, drain-after-send, drain-empty}

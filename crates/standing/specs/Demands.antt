@@ -7,6 +7,7 @@ use mathlib.Core.Bool.{true}
 use mathlib.Core.List.{List, _++_, map}
 use lib.ListN.{length}
 use lib.Seq.{sets}
+use Rattle.layout.specs.Counting.{times}
 use Rattle.rules.specs.Choice.{sift, Each}
 use Rattle.rules.specs.Numbers.{lastCounter, placeCount}
 use Rattle.rules.specs.Tags.{Bytes}
@@ -30,7 +31,7 @@ use Rattle.cells.specs.Free.{freeCount, freeCells, frameCells, portsOf}
 use Rattle.queues.specs.Lists.{listOf}
 use Rattle.layout.specs.Counters.{counterAt}
 use Rattle.addresses.specs.Numbers.{tableOf}
-use Rattle.standing.specs.Links.{times, rowsOf}
+use Rattle.standing.specs.Links.{rowsOf}
 use Rattle.take_out.specs.Frames.{frameAt}
 use Rattle.gufhrandi.specs.Memories.{Memories}
 use Rattle.gufhrandi.specs.Runs.{run}

@@ -7,10 +7,10 @@ use mathlib.Core.Bool.{_&&_}
 use mathlib.Core.List.{List, [], _∷_, _++_, map}
 use lib.Dec.{eqb, ltb}
 use lib.ListN.{length}
+use Rattle.layout.specs.Counting.{times}
 use Rattle.rules.specs.Choice.{if_then_else_, sift, among, without, Each, changed}
 use Rattle.rules.specs.Outcomes.{Frame}
 use Rattle.machine.specs.Waiting.{Waiting, size, cellsInUse, waitsAt}
-unfoldable pub use Rattle.queues.specs.Queued.{times}
 
 pub record Links : Type 0 where
   pub free : List ℕ

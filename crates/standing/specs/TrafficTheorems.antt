@@ -5,10 +5,11 @@ use Prim.Native.Nat.{ℕ, suc, _+_, _<_}
 use mathlib.Core.Path.{_≡_}
 use mathlib.Core.List.{List, [], _∷_, _++_, map}
 use lib.ListN.{length}
+use Rattle.layout.specs.Counting.{times}
 use Rattle.rules.specs.Choice.{Each}
 use Rattle.rules.specs.Outcomes.{Frame}
 use Rattle.machine.specs.Waiting.{Waiting, size, portAt, queueAt, send, drain, join}
-use Rattle.standing.specs.Links.{times, Links, rowsOf, Stands, linkIn, linkOut}
+use Rattle.standing.specs.Links.{Links, rowsOf, Stands, linkIn, linkOut}
 
 -- a frame waits at some port
 abbrev pub Somewhere : Waiting → Type 0
