@@ -14,6 +14,16 @@ ghost use Rattle.addresses.specs.Search.{lookUp, placeOf};
 ghost use Rattle.addresses.specs.Turns.{placeAt, emptySoFar, unfound, answerAt, firstWith};
 ghost use Rattle.addresses.specs.Writes.{markedBy, learnedBy, staticBy, removedBy, agedBy};
 
+// Places of a bucket, spares, and the places that a search meets.
+const WAYS: usize = 4;
+
+const SPARES: usize = 16;
+
+const TURNS: usize = WAYS + SPARES;
+
+// The spares are the last places, and are met behind the bucket's.
+const BEFORE_SPARES: usize = PLACES - SPARES - WAYS;
+
 // No place: there are 4,112.
 const NO_PLACE: usize = PLACES;
 
@@ -51,10 +61,10 @@ fn place_at(bucket: usize, turn: usize) -> usize
     requires { ⌜ (bucket < 1024) × (turn < 20) ⌝ }
     ensures { λ r. ⌜ (r ≡ placeAt bucket turn) × (r < placeCount) ⌝ }
 {
-    if turn < 4 {
-        return bucket * 4 + turn;
+    if turn < WAYS {
+        return bucket * WAYS + turn;
     }
-    4092 + turn
+    BEFORE_SPARES + turn
 }
 
 // The first empty place so far.
@@ -101,7 +111,7 @@ pub fn whole_search(addresses: &[u64], key: u64) -> LookUp
     let mut empty = NO_PLACE;
     let mut turn = 0;
     let found = 'search: loop {
-        if turn == 20 {
+        if turn == TURNS {
             return not_found(empty);
         }
         let place = place_at(bucket, turn);
@@ -122,7 +132,7 @@ fn way_of(addresses: &[u64], from: usize, key: u64) -> usize
 {
     let mut way = 0;
     let found = 'ways: loop {
-        if way == 4 {
+        if way == WAYS {
             return NO_PLACE;
         }
         let place = from + way;
@@ -139,7 +149,7 @@ pub fn look_up(addresses: &[u64], key: u64) -> LookUp
     requires { ⌜ (length (now addresses) ≡ placeCount) × (key < 2 ^ 52) ⌝ }
     ensures { λ r. ⌜ r ≡ lookUp (now (addresses .entry)) key ⌝ }
 {
-    let way = way_of(addresses, bucket_of(key) * 4, key);
+    let way = way_of(addresses, bucket_of(key) * WAYS, key);
     if way == NO_PLACE {
         return whole_search(addresses, key);
     }

@@ -22,7 +22,7 @@ use Rattle.machine.specs.CountTheorems.{outcomeNumber}
 use Rattle.tags.specs.Numbers.{stackIs}
 use Rattle.tags.proofs.Stacks.{stack-length, header-missing, header-outermost}
 use Rattle.tags.specs.declared.stack.Stack.{Stack}
-use Rattle.settings.specs.Ports.{vidEnd, portIn, vidIn, defaultIn, defaultOf}
+use Rattle.settings.specs.Ports.{portIn, vidIn, defaultIn, defaultOf}
 use Rattle.settings.specs.States.{stateIn, barNumber}
 use Rattle.settings.specs.Maps.{bpduIn, queueIn}
 use Rattle.settings.proofs.PortLaws.{default-in}
@@ -114,13 +114,6 @@ module _ (word states map port : ℕ) (operation : OperationNumbers) where
   own-pcp : own .default .pcp ≤ 7
   unfolding portOf portIn
   own-pcp = omega arith
-
-  -- the default header has sixteen bits
-  pub default-fits : (default : ℕ) → headerOf default ≡ own .default → word < vidEnd → default < 65536
-  unfolding portOf portIn headerOf
-  default-fits default d h =
-      let p : default / 8192 ≡ word / 64 % 8 = ap (λ (x : Header). x .pcp) d in
-      omega arith
 
   own-assignment : own .assignment ≡ min (word % 4) 2
   unfolding portOf portIn

@@ -13,9 +13,9 @@ use Rattle.rules.specs.Settings.{Settings, Vlan, departs, stateFor}
 use Rattle.rules.specs.Arguments.{bit}
 use Rattle.rules.specs.PortTests.{Test, passes, notMember, arrival, elsewhere, state, queueOff, isCandidate, isPassed, anyCandidate, portsLeft, portTest, bpduTest}
 use Rattle.rules.proofs.Choice.{on, eqb-sym, or-left, or-right}
-use Rattle.settings.specs.Bits.{less}
+use Rattle.layout.specs.Bits.{less}
 use Rattle.settings.specs.Switches.{switchIn}
-use Rattle.settings.proofs.BitLaws.{bit-and, bit-less, bit-power, zero-bits, bits-zero, five}
+use Rattle.layout.proofs.BitLaws.{bit-and, bit-less, bit-power, zero-bits, bits-zero, five}
 use Rattle.settings.proofs.SwitchLaws.{switches-of}
 use Rattle.arrival.specs.declared.plan.Masks.{Masks}
 use Rattle.arrival.specs.Candidates.{everyPort, managementMask, portsIn, candidatesIn, masksOf, isStateOut, isQueueOut, MasksAre}

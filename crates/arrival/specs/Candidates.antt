@@ -12,7 +12,7 @@ use Rattle.rules.specs.Tags.{isGroup}
 use Rattle.rules.specs.Addresses.{key}
 use Rattle.rules.specs.Arguments.{bit}
 use Rattle.rules.specs.PortTests.{Test, passes, notMember, arrival, elsewhere, state, queueOff, anyCandidate, portsLeft}
-use Rattle.settings.specs.Bits.{less}
+use Rattle.layout.specs.Bits.{less}
 use Rattle.addresses.specs.Search.{lookUp}
 use Rattle.addresses.specs.declared.LookUp.{LookUp}
 use Rattle.addresses.specs.declared.LookUp.the-variants.{Found, Vacant, Full, Damaged}

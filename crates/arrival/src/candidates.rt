@@ -9,9 +9,9 @@ use crate::plan::Masks;
 use addresses::LookUp;
 use addresses::key_of;
 use addresses::look_up;
+use layout::bits::less;
+use layout::bits::power;
 use layout::numbers::EVERY_PORT;
-use settings::bits::less;
-use settings::bits::power;
 use settings::switches::switches_of;
 use tags::reading::is_group;
 

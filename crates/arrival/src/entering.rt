@@ -22,8 +22,11 @@ use layout::reasons::TAG_COUNT;
 use layout::reasons::VID_4095;
 use settings::map::bpdu_in;
 use settings::map::queue_in;
+use settings::port::DEI;
+use settings::port::PCP;
 use settings::port::assignment_in;
 use settings::port::bars;
+use settings::port::default_header;
 use settings::port::vid_in;
 use settings::states::bar;
 use tags::headers::assigned_vid;
@@ -90,20 +93,12 @@ pub struct Arrival {
     pub barred: u32,
 }
 
-// The port's default header.
-pub fn default_header(word: u32) -> u16
-    requires { ⌜ word < vidEnd ⌝ }
-    ensures { λ r. ⌜ ((state : ℕ) (o : OperationNumbers) → headerOf r ≡ portOf (portIn state o word) .default) ⌝ }
-{
-    settings::port::default_header(word) as u16
-}
-
-// The same as it is stored with a frame: without the fields below it.
+// The port's default header as it is stored with a frame: without the fields below it.
 pub fn stored_default(word: u32) -> u16
     requires { ⌜ word < vidEnd ⌝ }
     ensures { λ r. ⌜ r ≡ defaultIn word ⌝ }
 {
-    (word / 32) as u16
+    (word / DEI) as u16
 }
 
 // 4 to 6.
@@ -132,7 +127,7 @@ fn told_by(word: u32, tags: Stack) -> Told
     if tags.count == 0 {
         return Told {
             vid: vid_in(word),
-            pcp: word / 64 % 8,
+            pcp: word / PCP % 8,
         };
     }
     let header = default_header(word);

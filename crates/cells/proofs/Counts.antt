@@ -1,12 +1,12 @@
 -- How often a number stands in a list, and lists whose numbers are all below n. Assumes nothing.
 use mathlib.Core.Path.{_≡_, refl}
 use mathlib.Core.Bool.{Bool, true, false, _&&_, and-eq-true-iff}
-use mathlib.Core.List.{List, [], _∷_, _++_}
-use Prim.Native.Nat.{ℕ, _+_, _≤_, _<_}
-use native.Mathlib.Nat.{zero-add}
+use mathlib.Core.List.{List, [], _∷_}
+use Prim.Native.Nat.{ℕ, _≤_, _<_}
 use native.Mathlib.Omega.{arith}
 use lib.Dec.{ltb}
 use borrow.Author.Tests.{ltb-true, eq-eqb}
+use Rattle.layout.proofs.Counting.{times-here}
 use Rattle.layout.specs.Counting.{one, times}
 
 -- each of the numbers is below n
@@ -17,14 +17,6 @@ allBelow n (c ∷ cs) = ltb c n && allBelow n cs
 pub one-le : (b : Bool) → one b ≤ 1
 one-le true = omega arith
 one-le false = omega arith
-
-pub count-append : (c : ℕ) (xs ys : List ℕ) → times c (xs ++ ys) ≡ times c xs + times c ys
-count-append c [] ys = rw zero-add
-count-append c (x ∷ xs) ys = omega (arith, count-append c xs ys)
-
--- the first of a list is in it
-pub count-head : (c : ℕ) (xs : List ℕ) → times c (c ∷ xs) ≡ 1 + times c xs
-count-head c xs = rw (eq-eqb c c refl)
 
 -- what is not in a list is not its first
 pub count-ne : (c x : ℕ) (xs : List ℕ) → times c (x ∷ xs) ≡ 0 → x ≡ c → ⊥
@@ -45,4 +37,4 @@ counted-below n (x ∷ xs) h =
   where
     go : (b : Bool) → ltb x n ≡ b → allBelow n xs ≡ true → allBelow n (x ∷ xs) ≡ true
     go true e r = rw (e, r)
-    go false e r = absurd (omega (arith, count-head x xs, rw e at (h x)))
+    go false e r = absurd (omega (arith, times-here x xs, rw e at (h x)))

@@ -15,7 +15,8 @@ use Rattle.layout.proofs.Cells.{clamped-below}
 use Rattle.cells.specs.Chains.{nextIn, next, follow, walk}
 use Rattle.cells.specs.Free.{freeCount, firstFree, wordOf, sizeOf, portsOf, freeCells, frameCells, lastCell, taken, givenBack}
 use Rattle.cells.specs.Sound.{waitingCells, Sound}
-use Rattle.cells.proofs.Counts.{one-le, count-append, count-head}
+use Rattle.layout.proofs.Counting.{times-append, times-here}
+use Rattle.cells.proofs.Counts.{one-le}
 use Rattle.cells.proofs.Steps.{follow-cons, walk-in}
 use Rattle.cells.proofs.Moves.{Taking, last-in}
 use Rattle.cells.proofs.Paths.{follow-split, behind-walk, follow-same, follow-past, walk-past}
@@ -63,7 +64,7 @@ module _ (n k ports : ℕ) (l : List ℕ) (long : linkWords n ≤ length l) (som
       let sum : freeCount l ≡ k + (freeCount l - k) = omega arith in
       ap (λ (f : ℕ). times c (follow n l f (firstFree l))) sum
       ∙ ap (times c) (follow-split n l k (freeCount l - k) (firstFree l))
-      ∙ count-append c (follow n l k (firstFree l)) (follow n l (freeCount l - k) (walk n l k (firstFree l)))
+      ∙ times-append c (follow n l k (firstFree l)) (follow n l (freeCount l - k) (walk n l k (firstFree l)))
 
   -- the cells taken are distinct, and in no frame that waits
   pub taken-once : (c : ℕ) → times c (follow n l k (firstFree l)) ≤ 1
@@ -84,9 +85,9 @@ module _ (n k ports : ℕ) (l : List ℕ) (long : linkWords n ≤ length l) (som
                     arith,
                     split (firstFree l),
                     ap (times (firstFree l)) (follow-cons n l k (firstFree l) some),
-                    count-head (firstFree l) (follow n l (k - 1) (next n l (firstFree l))),
+                    times-here (firstFree l) (follow n l (k - 1) (next n l (firstFree l))),
                     ap (times (firstFree l)) (waiting-some n l (firstFree l) p ∙ follow-cons n l (sizeOf l (firstFree l)) (firstFree l) q),
-                    count-head (firstFree l) (follow n l (sizeOf l (firstFree l) - 1) (next n l (firstFree l))),
+                    times-here (firstFree l) (follow n l (sizeOf l (firstFree l) - 1) (next n l (firstFree l))),
                     waiting-in n l (firstFree l) (firstFree l) n (t .first),
                     sound .once (firstFree l),
                     one-le (ltb (firstFree l) n),
@@ -138,10 +139,10 @@ module _ (n s : ℕ) (l : List ℕ) (long : linkWords n ≤ length l) (first : s
       ap (λ (k : ℕ). follow n l k s) sum ∙ follow-split n l (sizeOf l s - 1) 1 s
 
   ends-count : (c : ℕ) → times c (waitingCells n l s) ≡ times c (follow n l (sizeOf l s - 1) s) + times c (p ∷ [])
-  ends-count c = ap (times c) (waiting-some n l s waits ∙ ends) ∙ count-append c (follow n l (sizeOf l s - 1) s) (p ∷ [])
+  ends-count c = ap (times c) (waiting-some n l s waits ∙ ends) ∙ times-append c (follow n l (sizeOf l s - 1) s) (p ∷ [])
 
   last-once : (times p (follow n l (sizeOf l s - 1) s) ≡ 0) × (times p (freeCells n l) ≡ 0)
-  last-once = omega (arith, ends-count p, count-head p [], waiting-in n l p s n first, sound .once p, one-le (ltb p n))
+  last-once = omega (arith, ends-count p, times-here p [], waiting-in n l p s n first, sound .once p, one-le (ltb p n))
 
   next-other : (c : ℕ) → (c ≡ p → ⊥) → nextIn (givenBack n s l) c ≡ nextIn l c
   unfolding p
@@ -156,7 +157,7 @@ module _ (n s : ℕ) (l : List ℕ) (long : linkWords n ≤ length l) (first : s
       elim (decLe 1 (portsOf l r)) as (λ _. waitingCells n (givenBack n s l) r ≡ waitingCells n l r) [
         | yes w ↦
             let none : times p (follow n l (sizeOf l r) r) ≡ 0 =
-            omega (arith, ap (times p) (waiting-some n l r w), ends-count p, count-head p [], two-in n l p r s n h first ne, sound .once p, one-le (ltb p n)) in
+            omega (arith, ap (times p) (waiting-some n l r w), ends-count p, times-here p [], two-in n l p r s n h first ne, sound .once p, one-le (ltb p n)) in
             waiting-same n l (givenBack n s l) r (given-ports-other n s l r ne) (rw (given-size-other n s l r ne) (follow-past n p l (givenBack n s l) next-other (sizeOf l r) r none))
         | no w ↦
             let none : portsOf l r ≡ 0 = omega arith in
@@ -188,7 +189,7 @@ module _ (n s : ℕ) (l : List ℕ) (long : linkWords n ≤ length l) (first : s
             omega (
               arith,
               ap (times c) free-given,
-              count-append c (frameCells n l s) (freeCells n l),
+              times-append c (frameCells n l s) (freeCells n l),
               sound .once c,
               ap (times c) (waiting-some n l s waits),
               ap (times c) (waiting-none n (givenBack n s l) s (given-ports n s l long first)),

@@ -13,7 +13,8 @@ use Rattle.layout.specs.Counting.{times}
 use Rattle.slices.proofs.Runs.{part-before, part-after, part-run}
 use Rattle.cells.specs.Chains.{next, follow}
 use Rattle.cells.specs.Bytes.{storeCells, loadCells, headerIn, frontIn, frameIn}
-use Rattle.cells.proofs.Counts.{allBelow, count-head, count-ne, below-head, below-tail}
+use Rattle.layout.proofs.Counting.{times-here}
+use Rattle.cells.proofs.Counts.{allBelow, count-ne, below-head, below-tail}
 use Rattle.cells.proofs.Steps.{follow-cons}
 use Rattle.cells.proofs.Parts.{length-part, drop-part, drop-take}
 
@@ -51,7 +52,7 @@ cell-store d mem (c ∷ cs) bytes h =
 pub load-other : (mem cs ds bytes : List ℕ) → ((c : ℕ) → times c cs + times c ds ≤ 1) → loadCells (storeCells mem cs bytes) ds ≡ loadCells mem ds
 load-other mem cs [] bytes h = refl
 load-other mem cs (d ∷ ds) bytes h =
-    ap₂ _++_ (cell-store d mem cs bytes (omega (arith, h d, count-head d ds))) (load-other mem cs ds bytes (λ c. omega (arith, h c)))
+    ap₂ _++_ (cell-store d mem cs bytes (omega (arith, h d, times-here d ds))) (load-other mem cs ds bytes (λ c. omega (arith, h c)))
 
 -- ---- what was stored is read back
 
@@ -76,7 +77,7 @@ load-stored n mem (c ∷ cs) bytes f b d h =
     let first : List ℕ = sets mem (80 * c) (take 80 bytes) in
     let long : length first ≡ length mem = length-sets mem (80 * c) (take 80 bytes) in
     let last : List ℕ = storeCells first cs (drop 80 bytes) in
-    let kept : take 80 (drop (80 * c) last) ≡ take 80 (drop (80 * c) first) = cell-store c first cs (drop 80 bytes) (omega (arith, d c, count-head c cs)) in
+    let kept : take 80 (drop (80 * c) last) ≡ take 80 (drop (80 * c) first) = cell-store c first cs (drop 80 bytes) (omega (arith, d c, times-here c cs)) in
     let x-long : length (take 80 (drop (80 * c) last)) ≡ 80 = length-part (80 * c) 80 last (omega (arith, length-store first cs (drop 80 bytes))) in
     joined (take 80 (drop (80 * c) last)) (loadCells last cs) bytes x-long
     (ap (take (length (take 80 bytes))) kept ∙ take-take (length (take 80 bytes)) 80 (drop (80 * c) first) (short bytes) ∙ part-run mem (80 * c) (take 80 bytes) (omega (arith, short bytes)))

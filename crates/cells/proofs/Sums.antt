@@ -6,11 +6,11 @@ use native.Mathlib.Decide.{ℕ-discrete}
 use native.Mathlib.Omega.{arith}
 use Rattle.layout.specs.Counting.{times}
 use Rattle.cells.specs.Sound.{waitingCells, allWaiting}
-use Rattle.cells.proofs.Counts.{count-append}
+use Rattle.layout.proofs.Counting.{times-append}
 
 all-count : (n : ℕ) (l : List ℕ) (c m : ℕ) → times c (allWaiting n l (suc m)) ≡ times c (allWaiting n l m) + times c (waitingCells n l m)
 unfolding allWaiting
-all-count n l c m = count-append c (allWaiting n l m) (waitingCells n l m)
+all-count n l c m = times-append c (allWaiting n l m) (waitingCells n l m)
 
 module _ (n : ℕ) (l m : List ℕ) where
   pub all-same : (k : ℕ) → ((s : ℕ) → s < k → waitingCells n m s ≡ waitingCells n l s) → allWaiting n m k ≡ allWaiting n l k

@@ -22,6 +22,9 @@ use layout::PORT_STRIDE;
 use layout::SIZE_UNIT;
 use layout::STORED_HEADER;
 use layout::numbers::SHORTEST;
+use settings::operation::PCP_SOURCE;
+use settings::operation::TYPE;
+use settings::operation::VID_SOURCE;
 use settings::operation::given_header;
 use settings::operation::is_exempt;
 use settings::operation::is_operation_word;
@@ -36,10 +39,10 @@ fn operation_of(word: u32) -> Operation
 {
     let header = given_header(word);
     Operation {
-        kind: word % 8,
-        tag_type: word / 8 % 2,
-        vid_source: word / 16 % 4,
-        pcp_source: word / 64 % 4,
+        kind: word % TYPE,
+        tag_type: word / TYPE % 2,
+        vid_source: word / VID_SOURCE % 4,
+        pcp_source: word / PCP_SOURCE % 4,
         header,
     }
 }
@@ -118,7 +121,7 @@ pub fn is_plain(links: &[u32], port: usize, h: StoredHeader, own: u32) -> bool
     requires { ⌜ own ≡ portOperationAt (now links) port ⌝ }
     ensures { λ r. ⌜ (r ≡ true → spec.leavesPlain h (spec.operationOfPort (now (links .entry)) port) ≡ true) ⌝ }
 {
-    (h.operation % 8 == 0) & (own % 8 == 0)
+    (h.operation % TYPE == 0) & (own % TYPE == 0)
 }
 
 // The frame's addresses, at the front of out.

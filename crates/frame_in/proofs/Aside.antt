@@ -20,7 +20,7 @@ use Rattle.cells.proofs.Paths.{follow-same}
 use Rattle.arrival.specs.declared.plan.Masks.{Masks}
 use Rattle.arrival.specs.declared.plan.Plan.{Plan}
 use Rattle.arrival.specs.Candidates.{portsIn}
-use Rattle.settings.specs.Bits.{less}
+use Rattle.layout.specs.Bits.{less}
 use Rattle.frame_in.specs.Carried.{eachPort, bumpAt, pushAt, enqueueAt, countedFalls, countIf, countedWith, joinedAt, storedAt}
 use Rattle.frame_in.proofs.Each.{bump-apart}
 use Rattle.frame_in.proofs.Queued.{past-three, push-apart, sift-small, five}

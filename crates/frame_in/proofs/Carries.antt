@@ -7,7 +7,7 @@ use borrow.Author.Tests.{eqb-true}
 use lib.Dec.{eqb}
 use Rattle.rules.proofs.Choice.{and-left, and-right}
 use Rattle.rules.specs.Arguments.{bit}
-use Rattle.settings.proofs.BitLaws.{bit-less, no-bit-zero}
+use Rattle.layout.proofs.BitLaws.{bit-less, no-bit-zero}
 use Rattle.frame_in.proofs.Each.{each-none}
 use Rattle.rules.specs.Counters.{counterNumber}
 use Rattle.layout.specs.Counters.{bumped}
@@ -15,7 +15,7 @@ use Rattle.addresses.specs.Writes.{markedBy, learnedBy}
 use Rattle.arrival.specs.declared.plan.Lesson.{Lesson}
 use Rattle.arrival.specs.declared.plan.Masks.{Masks}
 use Rattle.arrival.specs.Candidates.{portsIn}
-use Rattle.settings.specs.Bits.{less}
+use Rattle.layout.specs.Bits.{less}
 use Rattle.frame_in.specs.Carried.{eachPort, bumpAt, countedFalls, countIf, countedWith, learnedLesson, lessonBy}
 
 -- ---- counters

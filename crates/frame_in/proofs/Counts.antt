@@ -18,7 +18,7 @@ use Rattle.machine.specs.Events.{Event, counts}
 use Rattle.machine.specs.FrameIn.{mask, testEvent, testEvents, candidateEvents, lessonEvents, joinEvents, outcomeEvents, frameInEvents}
 use Rattle.arrival.specs.declared.plan.Masks.{Masks}
 use Rattle.arrival.specs.Candidates.{isStateOut, isQueueOut, MasksAre}
-use Rattle.settings.specs.Bits.{less}
+use Rattle.layout.specs.Bits.{less}
 use Rattle.frame_in.specs.Carried.{eachPort, bumpAt, countedFalls, countIf, pushAt}
 use Rattle.layout.specs.Counters.{bumped}
 use Rattle.frame_in.specs.Counting.{counted}

@@ -14,7 +14,7 @@ use Rattle.rules.specs.Addresses.{run}
 use Rattle.rules.specs.Arguments.{bit}
 use Rattle.machine.specs.FrameIn.{mask}
 use Rattle.layout.specs.Places.{counterWord}
-use Rattle.settings.proofs.BitLaws.{bits-zero}
+use Rattle.layout.proofs.BitLaws.{bits-zero}
 use Rattle.arrival.specs.Candidates.{portsIn}
 use Rattle.frame_in.specs.Carried.{eachPort, ifSet, bumpAt}
 

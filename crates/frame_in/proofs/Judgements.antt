@@ -31,7 +31,7 @@ use Rattle.arrival.specs.declared.plan.Plan.{Plan}
 use Rattle.arrival.specs.Plans.{noLesson, noMasks, damagedPlan, lessonPlan, dropPlan, offerPlan}
 use Rattle.arrival.specs.Stored.{operationFor, storedHeader}
 use Rattle.arrival.specs.Candidates.{MasksAre}
-use Rattle.settings.specs.Bits.{less}
+use Rattle.layout.specs.Bits.{less}
 use Rattle.queues.specs.Lists.{allWaitingInRange}
 use Rattle.arrival.specs.Room.{roomMet, metRoom, planOffered}
 use Rattle.frame_in.specs.Carried.{bumpAt, countedFalls, lessonBy, Ready}

@@ -23,7 +23,7 @@ use Rattle.addresses.proofs.LookUps.{look-up-finds, place-inside, port-inside}
 use Rattle.addresses.proofs.Steps.{step-theorems}
 use Rattle.addresses.proofs.Frames.{frame-theorems}
 use Rattle.arrival.specs.declared.plan.Lesson.{Lesson}
-use Rattle.settings.proofs.BitLaws.{bit-power}
+use Rattle.layout.proofs.BitLaws.{bit-power}
 use Rattle.arrival.specs.Candidates.{destinationLookUp, chosenMask, ChosenFits}
 use Rattle.arrival.proofs.Masks.{every-bit}
 use Rattle.frame_in.specs.Carried.{learnedLesson, lessonBy}

@@ -15,11 +15,12 @@ use Rattle.rules.specs.Counters.{counterNumber}
 use Rattle.rules.proofs.Choice.{on}
 use Rattle.layout.specs.Places.{counterWord, waitingWord, oldestWord, youngestWord, behindWord}
 use Rattle.layout.specs.Cells.{clamped}
-use Rattle.queues.specs.Lists.{pushed, waitingOf, youngestOf, withBit}
+use Rattle.layout.specs.Bits.{withBit}
+use Rattle.queues.specs.Lists.{pushed}
 use Rattle.layout.specs.Counters.{bumped}
 use Rattle.arrival.specs.declared.plan.Masks.{Masks}
 use Rattle.arrival.specs.Candidates.{portsIn}
-use Rattle.settings.specs.Bits.{less}
+use Rattle.layout.specs.Bits.{less}
 use Rattle.frame_in.specs.Carried.{eachPort, bumpAt, pushAt, enqueueAt, countedFalls, countIf}
 use Rattle.frame_in.proofs.Each.{later, bump-apart}
 
@@ -63,7 +64,7 @@ module _ (n queue first : ℕ) (low : queue ≤ 3) (k : ℕ) (small : k < 32) wh
       (λ e. rw (waits, young, e)
       (past-two w l (behindWord p (clamped n (getD l (youngestWord p queue) 0))) first (youngestWord p queue) first (λ e. omega (arith, e)) no-youngest))
       (λ e. rw (waits, e)
-      (past-three w l (oldestWord p queue) first (youngestWord p queue) first (waitingWord p) (withBit (getD l (waitingWord p) 0) queue) no-oldest no-youngest no-waiting))
+      (past-three w l (oldestWord p queue) first (youngestWord p queue) first (waitingWord p) (withBit (getD l (waitingWord p) 0) queue true) no-oldest no-youngest no-waiting))
 
   push-later : (q : ℕ) → q < 5 → (ps : List ℕ) (l : List ℕ) → bumpAt k q (eachPort (pushAt n queue first) ps l) ≡ eachPort (pushAt n queue first) ps (bumpAt k q l)
   unfolding eachPort

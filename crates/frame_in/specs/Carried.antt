@@ -27,7 +27,7 @@ use Rattle.arrival.specs.declared.plan.Lesson.{Lesson}
 use Rattle.arrival.specs.declared.plan.Masks.{Masks}
 use Rattle.arrival.specs.declared.plan.Plan.{Plan}
 use Rattle.arrival.specs.Candidates.{portsIn}
-use Rattle.settings.specs.Bits.{less}
+use Rattle.layout.specs.Bits.{less}
 use Rattle.layout.specs.Counters.{bumped}
 
 -- ---- something done at some ports

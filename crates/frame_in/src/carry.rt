@@ -24,6 +24,8 @@ use cells::bytes::store;
 use cells::free::Room;
 use cells::free::take_cells;
 use layout::answers::Answer;
+use layout::bits::bit;
+use layout::bits::less;
 use layout::counter::bump;
 use layout::counters::ACCEPTED;
 use layout::counters::NOT_LEARNED;
@@ -31,8 +33,6 @@ use layout::counters::OFFERED;
 use layout::counters::QUEUE_OUT;
 use layout::counters::QUEUED;
 use layout::counters::STATE_OUT;
-use settings::bits::bit;
-use settings::bits::less;
 
 fn count_at(links: &mut [u32], mask: u32, port: u32, number: usize)
     requires { ⌜ (fixedWords ≤ length (now links)) × (port ≤ 4) × (number < 32) ⌝ }

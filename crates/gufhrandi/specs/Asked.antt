@@ -1,6 +1,6 @@
 -- The code's call as the machine's: what `src/perform.rt` asks. Assumes nothing: these are definitions.
 use Prim.Native.Nat.{ℕ}
-use mathlib.Core.List.{List}
+use mathlib.Core.List.{List, []}
 use Rattle.machine.specs.State.{Call, frameIn, take, age, counter, port, vlan, clearVlan, static, remove, map}
 use Rattle.machine.specs.State.{queueSwitch, drain, bpdu}
 use Rattle.layout.specs.declared.answers.Answer.{Answer}
@@ -12,11 +12,8 @@ use Rattle.settings.specs.declared.call.AddressCall.the-variants.{Age, Static, 
 use Rattle.settings.specs.declared.call.LinkCall.{LinkCall}
 use Rattle.settings.specs.declared.call.LinkCall.the-variants.{Counter, Port, Vlan, ClearVlan, Map, QueueSwitch, Drain}
 use Rattle.settings.specs.declared.call.LinkCall.the-variants.{Bpdu}
-use Rattle.take_out.specs.Drain.{drainCall}
-use Rattle.address_calls.specs.Calls.{ageCall, staticCall, removeCall}
-use Rattle.setting_calls.specs.Calls.{counterCall, portCall, mapCall, queueSwitchCall, bpduCall}
-use Rattle.setting_calls.specs.Vlans.{vlanCall, clearVlanCall}
 use Rattle.gufhrandi.specs.Memories.{Memories, Done}
+use Rattle.gufhrandi.specs.Runs.{run}
 
 abbrev pub memories : List ℕ → List ℕ → List ℕ → Memories
 memories cells links addresses = record { cells = cells; links = links; addresses = addresses }
@@ -46,19 +43,16 @@ asked frame room (Take p) = take (record { port = p; buffer = room })
 asked frame room (Addresses c) = addressAsked c
 asked frame room (Links c) = linkAsked c
 
--- ---- the calls that are lent one memory, on that memory
+-- ---- the calls that are lent one memory: what `run` makes of it, whatever the others are
+
+abbrev pub ofAddresses : Done → Answer × List ℕ
+ofAddresses done = (done .answer, done .memories .addresses)
 
 unfoldable pub addressRun : List ℕ → AddressCall → Answer × List ℕ
-addressRun addresses Age = ageCall addresses
-addressRun addresses (Static gid p address) = staticCall addresses gid p address
-addressRun addresses (Remove gid address) = removeCall addresses gid address
+addressRun addresses c = ofAddresses (run (memories [] [] addresses) (addressAsked c) [])
+
+abbrev pub ofLinks : Done → Answer × List ℕ
+ofLinks done = (done .answer, done .memories .links)
 
 unfoldable pub linkRun : List ℕ → LinkCall → Answer × List ℕ
-linkRun links (Counter p k) = counterCall links p k
-linkRun links (Port p new) = portCall links p (portIs new)
-linkRun links (Vlan new) = vlanCall links (vlanIs new)
-linkRun links (ClearVlan vid) = clearVlanCall links vid
-linkRun links (Map pcp q) = mapCall links pcp q
-linkRun links (QueueSwitch p q on) = queueSwitchCall links p q on
-linkRun links (Drain p) = drainCall links p
-linkRun links (Bpdu on) = bpduCall links on
+linkRun links c = ofLinks (run (memories [] links []) (linkAsked c) [])

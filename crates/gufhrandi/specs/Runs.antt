@@ -1,5 +1,5 @@
 -- The machine's calls as the promises of the public calls over lent memories: each line cites the very function that
--- stands in the `ensures` of the Rattle function, as `src/lib.rt` shows. Assumes nothing: these are definitions.
+-- stands in the `ensures` of the Rattle function, as `src/perform.rt` shows. Assumes nothing: these are definitions.
 use Prim.Native.Nat.{ℕ}
 use mathlib.Core.List.{List}
 use Rattle.machine.specs.State.{Call, frameIn, take, age, counter, port, vlan, clearVlan, static, remove, map}

@@ -7,6 +7,7 @@ pub mod counters; // the counters, by number
 pub mod answers; // what a call answers
 pub mod lengths; // the lengths of lent memory
 pub mod counter; // a counter's word
+pub mod bits; // one bit of a word
 
 ghost use mathlib.Core.Path.{_≡_};
 ghost use Prim.Native.Nat.{_≤_, _<_};

@@ -7,6 +7,10 @@ pub const GROUP_SOURCE: u32 = 3;
 
 pub const TAG_COUNT: u32 = 4;
 
+pub const PORT_BLOCKING: u32 = 5;
+
+pub const PORT_LISTENING: u32 = 6;
+
 pub const VID_4095: u32 = 7;
 
 pub const NO_VLAN: u32 = 8;

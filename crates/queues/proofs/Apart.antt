@@ -1,6 +1,7 @@
 -- A frame that joins or leaves a queue touches no word elsewhere: no cell's next, size and ports, no free cell, no setting and no counter.
 -- Assumes nothing.
 use Prim.Native.Nat.{ℕ, _<_}
+use mathlib.Core.Bool.{true, false}
 use mathlib.Core.List.{List}
 use lib.Dec.{eqb}
 use lib.ListN.{set}
@@ -9,7 +10,8 @@ use Rattle.rules.proofs.Choice.{on}
 use Rattle.layout.specs.Places.{waitingWord, oldestWord, youngestWord, behindWord}
 use Rattle.layout.specs.Same.{OthersSame}
 use Rattle.layout.proofs.Stores.{others-then}
-use Rattle.queues.specs.Lists.{waitingOf, youngestOf, behindOf, clamped, bit, withBit, withoutBit, pushed, poppedAt}
+use Rattle.layout.specs.Bits.{withBit}
+use Rattle.queues.specs.Lists.{waitingOf, youngestOf, behindOf, clamped, bit, pushed, poppedAt}
 
 module _ (n p q : ℕ) (l : List ℕ) (port : p < 5) (queue : q < 4) where
   waiting-others : (k : List ℕ) (v : ℕ) → OthersSame k (set k (waitingWord p) v)
@@ -33,11 +35,11 @@ module _ (n p q : ℕ) (l : List ℕ) (port : p < 5) (queue : q < 4) where
       (λ e. rw e
       (others-then
       (others-then (oldest-others l x) (youngest-others (set l (oldestWord p q) x) x))
-      (waiting-others (set (set l (oldestWord p q) x) (youngestWord p q) x) (withBit (waitingOf l p) q))))
+      (waiting-others (set (set l (oldestWord p q) x) (youngestWord p q) x) (withBit (waitingOf l p) q true))))
 
   pub popped-at-others : (first : ℕ) → OthersSame l (poppedAt p q first l)
   unfolding poppedAt
   popped-at-others first =
       on (eqb (youngestOf l p q) first)
-      (λ e. rw e (waiting-others l (withoutBit (waitingOf l p) q)))
+      (λ e. rw e (waiting-others l (withBit (waitingOf l p) q false)))
       (λ e. rw e (oldest-others l (behindOf l p first)))

@@ -11,7 +11,8 @@ use Rattle.rules.proofs.Choice.{each-first, each-rest}
 use Rattle.queues.specs.Lists.{waitingOf, oldestOf, youngestOf, behindOf, bit, listFrom, listOf}
 use Rattle.queues.specs.Queued.{some, Behind, Chained, Queued}
 use Rattle.layout.proofs.Cells.{clamped-below}
-use Rattle.queues.proofs.Counts.{times-here, times-rest, at-most}
+use Rattle.layout.proofs.Counting.{times-here}
+use Rattle.queues.proofs.Counts.{times-rest, at-most}
 
 -- ---- the last of a chain
 

@@ -8,7 +8,8 @@ use lib.ListN.{length, set, length-set}
 use borrow.Author.Tests.{eq-eqb, ne-eqb}
 use Rattle.rules.proofs.Choice.{on}
 use Rattle.layout.specs.Places.{waitingWord, oldestWord, youngestWord, behindWord}
-use Rattle.queues.specs.Lists.{waitingOf, youngestOf, oldestCell, behindOf, clamped, bit, withBit, withoutBit, pushed, poppedAt, popped}
+use Rattle.layout.specs.Bits.{withBit}
+use Rattle.queues.specs.Lists.{waitingOf, youngestOf, oldestCell, behindOf, clamped, bit, pushed, poppedAt, popped}
 
 -- ---- the ways
 
@@ -18,12 +19,12 @@ module _ (n p q : ℕ) (l : List ℕ) where
   unfolding pushed
   push-behind x last e h = rw (e, h)
 
-  pub push-first : (x w : ℕ) → bit (waitingOf l p) q ≡ false → w ≡ withBit (waitingOf l p) q
+  pub push-first : (x w : ℕ) → bit (waitingOf l p) q ≡ false → w ≡ withBit (waitingOf l p) q true
       → set (set (set l (oldestWord p q) x) (youngestWord p q) x) (waitingWord p) w ≡ pushed n p q x l
   unfolding pushed
   push-first x w e h = rw (e, h)
 
-  pub pop-last : (first w : ℕ) → youngestOf l p q ≡ first → w ≡ withoutBit (waitingOf l p) q → set l (waitingWord p) w ≡ poppedAt p q first l
+  pub pop-last : (first w : ℕ) → youngestOf l p q ≡ first → w ≡ withBit (waitingOf l p) q false → set l (waitingWord p) w ≡ poppedAt p q first l
   unfolding poppedAt
   pop-last first w e h = rw (eq-eqb (youngestOf l p q) first e, h)
 

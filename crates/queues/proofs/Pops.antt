@@ -1,5 +1,6 @@
 -- The oldest frame leaves a queue: the others of that queue stay in order, and the other 19 queues are as they were. Assumes nothing.
 use Prim.Native.Nat.{ℕ, _≤_, _<_}
+use mathlib.Core.Bool.{false}
 use mathlib.Core.Path.{_≡_, refl, sym, ap, _∙_, subst}
 use mathlib.Core.List.{List, [], _∷_}
 use native.Mathlib.Omega.{arith}
@@ -11,9 +12,10 @@ use Rattle.layout.specs.Counting.{times}
 use Rattle.rules.specs.Choice.{nobody}
 use Rattle.rules.proofs.Choice.{on, onList, eqb-self, each-first, each-rest}
 use Rattle.layout.specs.Places.{linkWords, waitingWord, oldestWord, youngestWord, behindWord}
-use Rattle.queues.specs.Lists.{waitingOf, oldestOf, youngestOf, behindOf, clamped, oldestCell, bit, withoutBit, popped}
+use Rattle.layout.specs.Bits.{withBit}
+use Rattle.queues.specs.Lists.{waitingOf, oldestOf, youngestOf, behindOf, clamped, oldestCell, bit, popped}
 use Rattle.queues.specs.Queued.{some, Behind, Queued, Queues, left}
-use Rattle.queues.proofs.WaitingBits.{without-same, without-other}
+use Rattle.layout.proofs.BitLaws.{written-there, written-elsewhere}
 use Rattle.layout.proofs.Cells.{clamped-below}
 use Rattle.queues.proofs.Outcomes.{pop-last, pop-first, popped-at}
 use Rattle.queues.proofs.Counts.{times-rest}
@@ -28,16 +30,16 @@ module _ (n p q : ℕ) (l : List ℕ) (long : linkWords n ≤ length l) (port : 
   -- ---- it was the only one: its bit
 
   module _ (Q : Queued n l p q (c ∷ [])) where
-    is-last : popped n p q l ≡ set l (waitingWord p) (withoutBit (waitingOf l p) q)
+    is-last : popped n p q l ≡ set l (waitingWord p) (withBit (waitingOf l p) q false)
     is-last =
         sym (popped-at n p q l c (sym (first-is [] Q)))
-        ∙ sym (pop-last n p q l c (withoutBit (waitingOf l p) q) (sym (Q .chained .1)) refl)
+        ∙ sym (pop-last n p q l c (withBit (waitingOf l p) q false) (sym (Q .chained .1)) refl)
 
     last-word : (w : ℕ) → (w ≡ waitingWord p → ⊥) → getD (popped n p q l) w 0 ≡ getD l w 0
-    last-word w a = rw is-last (getD-set-other l (waitingWord p) w (withoutBit (waitingOf l p) q) 0 a)
+    last-word w a = rw is-last (getD-set-other l (waitingWord p) w (withBit (waitingOf l p) q false) 0 a)
 
-    last-waiting : waitingOf (popped n p q l) p ≡ withoutBit (waitingOf l p) q
-    last-waiting = rw is-last (getD-set-same l (waitingWord p) (withoutBit (waitingOf l p) q) 0 (omega arith))
+    last-waiting : waitingOf (popped n p q l) p ≡ withBit (waitingOf l p) q false
+    last-waiting = rw is-last (getD-set-same l (waitingWord p) (withBit (waitingOf l p) q false) 0 (omega arith))
 
   -- ---- others are behind it: the oldest
 
@@ -65,7 +67,7 @@ module _ (n p q : ℕ) (l : List ℕ) (long : linkWords n ≤ length l) (port : 
   unfolding some
   queued-popped [] Q =
       record {
-        waits = ap (λ (w : ℕ). bit w q) (last-waiting Q) ∙ without-same (waitingOf l p) q queue;
+        waits = ap (λ (w : ℕ). bit w q) (last-waiting Q) ∙ written-there (waitingOf l p) q false;
         below = nobody;
         once = λ x. omega (arith, Q .once x, times-rest x c []);
         chained = tt;
@@ -99,7 +101,7 @@ module _ (n p q : ℕ) (l : List ℕ) (long : linkWords n ≤ length l) (port : 
           record {
             waits = on (eqb r p)
                 (λ e. let same : r ≡ p = eqb-true r p e in
-                rw same (ap (λ (w : ℕ). bit w s) (last-waiting Q) ∙ without-other (waitingOf l p) q queue s hs (ne same)))
+                rw same (ap (λ (w : ℕ). bit w s) (last-waiting Q) ∙ written-elsewhere (waitingOf l p) q false s (λ e. ne same (sym e))))
                 (λ e. ap (λ (w : ℕ). bit w s) (word (waitingWord r) (λ z. eqb-false r p e (omega arith))));
             oldest = word (oldestWord r s) (λ z. let same : r ≡ p = omega arith in omega arith);
             youngest = word (youngestWord r s) (λ z. let same : r ≡ p = omega arith in omega arith);

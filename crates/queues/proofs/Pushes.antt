@@ -12,12 +12,14 @@ use Rattle.layout.specs.Counting.{times}
 use Rattle.rules.specs.Choice.{nobody, also}
 use Rattle.rules.proofs.Choice.{on, onList, eqb-self, each-append}
 use Rattle.layout.specs.Places.{linkWords, waitingWord, oldestWord, youngestWord, behindWord}
-use Rattle.queues.specs.Lists.{waitingOf, oldestOf, youngestOf, behindOf, bit, withBit, pushed}
+use Rattle.layout.specs.Bits.{withBit}
+use Rattle.queues.specs.Lists.{waitingOf, oldestOf, youngestOf, behindOf, bit, pushed}
 use Rattle.queues.specs.Queued.{some, Behind, Queued, Queues, joined}
-use Rattle.queues.proofs.WaitingBits.{with-same, with-other}
+use Rattle.layout.proofs.BitLaws.{written-there, written-elsewhere}
 use Rattle.layout.proofs.Cells.{clamped-below}
 use Rattle.queues.proofs.Outcomes.{push-behind, push-first}
-use Rattle.queues.proofs.Counts.{times-here, times-there, times-none, times-rest, times-append, each-times}
+use Rattle.layout.proofs.Counting.{times-here, times-there, times-none, times-append}
+use Rattle.queues.proofs.Counts.{times-rest, each-times}
 use Rattle.queues.proofs.Chains.{last-in, not-last, ListSame}
 use Rattle.queues.proofs.Changes.{queues-changed}
 
@@ -53,29 +55,29 @@ module _ (n p q x : ℕ) (l : List ℕ) (long : linkWords n ≤ length l) (port 
     abbrev both : List ℕ
     both = set first (youngestWord p q) x
 
-    is-first : pushed n p q x l ≡ set both (waitingWord p) (withBit (waitingOf l p) q)
-    is-first = sym (push-first n p q l x (withBit (waitingOf l p) q) empty refl)
+    is-first : pushed n p q x l ≡ set both (waitingWord p) (withBit (waitingOf l p) q true)
+    is-first = sym (push-first n p q l x (withBit (waitingOf l p) q true) empty refl)
 
     first-word : (w : ℕ) → (w ≡ oldestWord p q → ⊥) → (w ≡ youngestWord p q → ⊥) → (w ≡ waitingWord p → ⊥) → getD (pushed n p q x l) w 0 ≡ getD l w 0
     first-word w a b c =
         rw is-first
-        (getD-set-other both (waitingWord p) w (withBit (waitingOf l p) q) 0 c ∙ getD-set-other first (youngestWord p q) w x 0 b ∙ getD-set-other l (oldestWord p q) w x 0 a)
+        (getD-set-other both (waitingWord p) w (withBit (waitingOf l p) q true) 0 c ∙ getD-set-other first (youngestWord p q) w x 0 b ∙ getD-set-other l (oldestWord p q) w x 0 a)
 
     first-oldest : oldestOf (pushed n p q x l) p q ≡ x
     first-oldest =
         rw is-first
-        (getD-set-other both (waitingWord p) (oldestWord p q) (withBit (waitingOf l p) q) 0 (λ e. omega arith)
+        (getD-set-other both (waitingWord p) (oldestWord p q) (withBit (waitingOf l p) q true) 0 (λ e. omega arith)
         ∙ getD-set-other first (youngestWord p q) (oldestWord p q) x 0 (λ e. omega arith)
         ∙ getD-set-same l (oldestWord p q) x 0 (omega arith))
 
     first-youngest : youngestOf (pushed n p q x l) p q ≡ x
     first-youngest =
         rw is-first
-        (getD-set-other both (waitingWord p) (youngestWord p q) (withBit (waitingOf l p) q) 0 (λ e. omega arith)
+        (getD-set-other both (waitingWord p) (youngestWord p q) (withBit (waitingOf l p) q true) 0 (λ e. omega arith)
         ∙ getD-set-same first (youngestWord p q) x 0 (simp length-set (omega arith)))
 
-    first-waiting : waitingOf (pushed n p q x l) p ≡ withBit (waitingOf l p) q
-    first-waiting = rw is-first (getD-set-same both (waitingWord p) (withBit (waitingOf l p) q) 0 (simp length-set (omega arith)))
+    first-waiting : waitingOf (pushed n p q x l) p ≡ withBit (waitingOf l p) q true
+    first-waiting = rw is-first (getD-set-same both (waitingWord p) (withBit (waitingOf l p) q true) 0 (simp length-set (omega arith)))
 
 -- ---- the queue itself
 
@@ -96,7 +98,7 @@ module _ (n p q x : ℕ) (l : List ℕ) (long : linkWords n ≤ length l) (port 
   unfolding some
   queued-pushed [] new Q =
       record {
-        waits = ap (λ (w : ℕ). bit w q) (first-waiting n p q x l long port queue (Q .waits)) ∙ with-same (waitingOf l p) q queue;
+        waits = ap (λ (w : ℕ). bit w q) (first-waiting n p q x l long port queue (Q .waits)) ∙ written-there (waitingOf l p) q true;
         below = also inside nobody;
         once = once-pushed x [] new (Q .once);
         chained = (first-oldest n p q x l long port queue (Q .waits), sym (first-youngest n p q x l long port queue (Q .waits)));
@@ -133,7 +135,7 @@ module _ (n p q x : ℕ) (l : List ℕ) (long : linkWords n ≤ length l) (port 
           record {
             waits = on (eqb r p)
                 (λ e. let same : r ≡ p = eqb-true r p e in
-                rw same (ap (λ (w : ℕ). bit w s) (first-waiting n p q x l long port queue empty) ∙ with-other (waitingOf l p) q queue s hs (ne same)))
+                rw same (ap (λ (w : ℕ). bit w s) (first-waiting n p q x l long port queue empty) ∙ written-elsewhere (waitingOf l p) q true s (λ e. ne same (sym e))))
                 (λ e. ap (λ (w : ℕ). bit w s) (word (waitingWord r) (λ z. let same : r ≡ p = omega arith in omega arith) (λ z. let same : r ≡ p = omega arith in omega arith) (λ z. eqb-false r p e (omega arith))));
             oldest = word (oldestWord r s) (λ z. let same : r ≡ p = omega arith in ne same (omega arith)) (λ z. omega arith) (λ z. let same : r ≡ p = omega arith in omega arith);
             youngest = word (youngestWord r s) (λ z. omega arith) (λ z. let same : r ≡ p = omega arith in ne same (omega arith)) (λ z. let same : r ≡ p = omega arith in omega arith);

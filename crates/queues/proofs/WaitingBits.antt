@@ -1,16 +1,15 @@
 -- The bits of the word of the queues that wait. Assumes nothing.
 use Prim.Native.Nat.{ℕ, zero, suc, _+_, _*_, _-_, _/_, _%_, _^_, _≤_, _<_}
 use mathlib.Core.Path.{_≡_, refl, ap, _∙_, subst}
-use mathlib.Core.Bool.{Bool, true, false, _&&_, _||_, not}
+use mathlib.Core.Bool.{true}
 use native.Mathlib.Omega.{arith}
 use lib.Dec.{eqb}
-use lib.Bits.{bitAnd, bitOr, and-shr, and-mod, or-shr, or-mod}
 use lib.Count.{leadingZeros, leading-top}
 use borrow.Author.Tests.{eqb-true, eqb-false, eq-eqb, ne-eqb}
 use Rattle.rules.specs.Choice.{if_then_else_}
-use Rattle.rules.proofs.Choice.{on, eqb-self}
+use Rattle.rules.proofs.Choice.{on}
 use Rattle.queues.specs.declared.Highest.the-variants.{Queue, Nothing}
-use Rattle.queues.specs.Lists.{bit, withBit, withoutBit, highestOf}
+use Rattle.queues.specs.Lists.{bit, highestOf}
 
 -- what holds at each of the four queues
 pub fours : (P : ℕ → Type 0) → P 0 → P 1 → P 2 → P 3 → (q : ℕ) → q < 4 → P q
@@ -20,105 +19,7 @@ fours P a b c d (suc (suc zero)) h = c
 fours P a b c d (suc (suc (suc zero))) h = d
 fours P a b c d (suc (suc (suc (suc q)))) h = absurd (omega arith)
 
--- ---- a bit of a joined word
-
-digit-and : (a b : ℕ) → a < 2 → b < 2 → eqb (bitAnd a b) 1 ≡ (eqb a 1 && eqb b 1)
-digit-and zero zero h k = refl
-digit-and zero (suc zero) h k = refl
-digit-and (suc zero) zero h k = refl
-digit-and (suc zero) (suc zero) h k = refl
-digit-and zero (suc (suc b)) h k = absurd (omega (arith, k))
-digit-and (suc zero) (suc (suc b)) h k = absurd (omega (arith, k))
-digit-and (suc (suc a)) b h k = absurd (omega (arith, h))
-
-digit-or : (a b : ℕ) → a < 2 → b < 2 → eqb (bitOr a b) 1 ≡ (eqb a 1 || eqb b 1)
-digit-or zero zero h k = refl
-digit-or zero (suc zero) h k = refl
-digit-or (suc zero) zero h k = refl
-digit-or (suc zero) (suc zero) h k = refl
-digit-or zero (suc (suc b)) h k = absurd (omega (arith, k))
-digit-or (suc zero) (suc (suc b)) h k = absurd (omega (arith, k))
-digit-or (suc (suc a)) b h k = absurd (omega (arith, h))
-
-bit-and : (a b q : ℕ) → bit (bitAnd a b) q ≡ (bit a q && bit b q)
-unfolding bit
-bit-and a b q =
-    ap (λ (x : ℕ). eqb (x % 2) 1) (and-shr a b q)
-    ∙ ap (λ (x : ℕ). eqb x 1) (and-mod (a / 2 ^ q) (b / 2 ^ q) 1)
-    ∙ digit-and (a / 2 ^ q % 2) (b / 2 ^ q % 2) (omega arith) (omega arith)
-
-bit-or : (a b q : ℕ) → bit (bitOr a b) q ≡ (bit a q || bit b q)
-unfolding bit
-bit-or a b q =
-    ap (λ (x : ℕ). eqb (x % 2) 1) (or-shr a b q)
-    ∙ ap (λ (x : ℕ). eqb x 1) (or-mod (a / 2 ^ q) (b / 2 ^ q) 1)
-    ∙ digit-or (a / 2 ^ q % 2) (b / 2 ^ q % 2) (omega arith) (omega arith)
-
--- ---- one bit set, one bit cleared
-
-bit-of-power : (q : ℕ) → q < 4 → (r : ℕ) → r < 4 → bit (2 ^ q) r ≡ eqb r q
-unfolding bit
-bit-of-power =
-    fours (λ (q : ℕ). (r : ℕ) → r < 4 → bit (2 ^ q) r ≡ eqb r q)
-    (fours (λ (r : ℕ). bit (2 ^ 0) r ≡ eqb r 0) refl refl refl refl)
-    (fours (λ (r : ℕ). bit (2 ^ 1) r ≡ eqb r 1) refl refl refl refl)
-    (fours (λ (r : ℕ). bit (2 ^ 2) r ≡ eqb r 2) refl refl refl refl)
-    (fours (λ (r : ℕ). bit (2 ^ 3) r ≡ eqb r 3) refl refl refl refl)
-
-bit-of-rest : (q : ℕ) → q < 4 → (r : ℕ) → r < 4 → bit (4294967295 - 2 ^ q) r ≡ not (eqb r q)
-unfolding bit
-bit-of-rest =
-    fours (λ (q : ℕ). (r : ℕ) → r < 4 → bit (4294967295 - 2 ^ q) r ≡ not (eqb r q))
-    (fours (λ (r : ℕ). bit (4294967295 - 2 ^ 0) r ≡ not (eqb r 0)) refl refl refl refl)
-    (fours (λ (r : ℕ). bit (4294967295 - 2 ^ 1) r ≡ not (eqb r 1)) refl refl refl refl)
-    (fours (λ (r : ℕ). bit (4294967295 - 2 ^ 2) r ≡ not (eqb r 2)) refl refl refl refl)
-    (fours (λ (r : ℕ). bit (4294967295 - 2 ^ 3) r ≡ not (eqb r 3)) refl refl refl refl)
-
-or-true : (a : Bool) → (a || true) ≡ true
-or-true true = refl
-or-true false = refl
-
-or-false : (a : Bool) → (a || false) ≡ a
-or-false true = refl
-or-false false = refl
-
-and-true : (a : Bool) → (a && true) ≡ a
-and-true true = refl
-and-true false = refl
-
-and-false : (a : Bool) → (a && false) ≡ false
-and-false true = refl
-and-false false = refl
-
-module _ (w q : ℕ) (h : q < 4) where
-  pub with-same : bit (withBit w q) q ≡ true
-  unfolding withBit
-  with-same = bit-or w (2 ^ q) q ∙ ap (λ (b : Bool). bit w q || b) (bit-of-power q h q h ∙ eqb-self q) ∙ or-true (bit w q)
-
-  pub without-same : bit (withoutBit w q) q ≡ false
-  unfolding withoutBit
-  without-same = bit-and w (4294967295 - 2 ^ q) q ∙ ap (λ (b : Bool). bit w q && b) (bit-of-rest q h q h ∙ ap not (eqb-self q)) ∙ and-false (bit w q)
-
-  module _ (r : ℕ) (k : r < 4) (ne : r ≡ q → ⊥) where
-    pub with-other : bit (withBit w q) r ≡ bit w r
-    unfolding withBit
-    with-other = bit-or w (2 ^ q) r ∙ ap (λ (b : Bool). bit w r || b) (bit-of-power q h r k ∙ ne-eqb r q ne) ∙ or-false (bit w r)
-
-    pub without-other : bit (withoutBit w q) r ≡ bit w r
-    unfolding withoutBit
-    without-other =
-        bit-and w (4294967295 - 2 ^ q) r ∙ ap (λ (b : Bool). bit w r && b) (bit-of-rest q h r k ∙ ap not (ne-eqb r q ne)) ∙ and-true (bit w r)
-
--- a shifted one
-pub shifted-one : (q : ℕ) → q < 4 → 1 * 2 ^ q % 2 ^ 32 ≡ 2 ^ q
-shifted-one = fours (λ (q : ℕ). 1 * 2 ^ q % 2 ^ 32 ≡ 2 ^ q) refl refl refl refl
-
 -- ---- the highest
-
--- a word of 0 has no bit
-pub bit-of-none : (q : ℕ) → q < 4 → bit 0 q ≡ false
-unfolding bit
-bit-of-none = fours (λ (q : ℕ). bit 0 q ≡ false) refl refl refl refl
 
 -- only the four lowest bits count
 low-bits : (w q : ℕ) → q < 4 → bit (w % 16) q ≡ bit w q

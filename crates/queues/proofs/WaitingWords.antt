@@ -1,10 +1,10 @@
 -- The words of waiting queues stay in range as frames join and leave. Assumes nothing.
-use Prim.Native.Nat.{ℕ, _-_, _^_, _≤_, _<_}
+use Prim.Native.Nat.{ℕ, _-_, _≤_, _<_}
+use mathlib.Core.Bool.{true, false}
 use mathlib.Core.Path.{_≡_}
 use mathlib.Core.List.{List}
 use native.Mathlib.Omega.{arith}
 use lib.Dec.{eqb}
-use lib.Bits.{or-lt, and-le-l}
 use lib.ListN.{length, set, length-set}
 use lib.Seq.{getD-set-same, getD-set-other}
 use borrow.Author.Tests.{eqb-true, eqb-false}
@@ -12,18 +12,11 @@ use Rattle.rules.specs.Choice.{Each, nobody, also}
 use Rattle.rules.proofs.Choice.{on}
 use Rattle.layout.specs.Places.{linkWords, waitingWord, oldestWord, youngestWord, behindWord}
 use Rattle.layout.specs.Same.{QueuesSame}
-use Rattle.queues.specs.Lists.{waitingOf, youngestOf, behindOf, clamped, bit, withBit, withoutBit, pushed, poppedAt, pushedAt}
+use Rattle.layout.specs.Bits.{withBit}
+use Rattle.queues.specs.Lists.{waitingOf, youngestOf, behindOf, clamped, bit, pushed, poppedAt, pushedAt}
 use Rattle.queues.specs.Queued.{WaitingInRange}
-use Rattle.queues.proofs.WaitingBits.{fours}
+use Rattle.layout.proofs.BitLaws.{written-small}
 use Rattle.queues.proofs.Outcomes.{length-pushed}
-
-with-small : (w q : ℕ) → q < 4 → w < 16 → withBit w q < 16
-unfolding withBit
-with-small w q h k = or-lt 4 w (2 ^ q) k (fours (λ (s : ℕ). 2 ^ s < 16) (omega arith) (omega arith) (omega arith) (omega arith) q h)
-
-without-small : (w q : ℕ) → w < 16 → withoutBit w q < 16
-unfolding withoutBit
-without-small w q k = omega (arith, and-le-l w (4294967295 - 2 ^ q))
 
 -- another word, or this one
 other-word : (l : List ℕ) (w v : ℕ) → ((r : ℕ) → r < 5 → waitingWord r ≡ w → ⊥) → WaitingInRange l → WaitingInRange (set l w v)
@@ -44,7 +37,7 @@ module _ (n p q : ℕ) (l : List ℕ) (long : linkWords n ≤ length l) (port : 
       (other-word (set l (behindWord p (clamped n (youngestOf l p q))) x) (youngestWord p q) x (λ r hr z. let same : r ≡ p = omega arith in omega arith)
       (other-word l (behindWord p (clamped n (youngestOf l p q))) x (λ r hr z. omega arith) good)))
       (λ e. rw e
-      (this-word (set (set l (oldestWord p q) x) (youngestWord p q) x) p (withBit (waitingOf l p) q) (simp length-set (omega arith)) (with-small (waitingOf l p) q queue (good p port))
+      (this-word (set (set l (oldestWord p q) x) (youngestWord p q) x) p (withBit (waitingOf l p) q true) (simp length-set (omega arith)) (written-small 4 (waitingOf l p) q true (good p port) queue)
       (other-word (set l (oldestWord p q) x) (youngestWord p q) x (λ r hr z. let same : r ≡ p = omega arith in omega arith)
       (other-word l (oldestWord p q) x (λ r hr z. let same : r ≡ p = omega arith in omega arith) good))))
 
@@ -52,7 +45,7 @@ module _ (n p q : ℕ) (l : List ℕ) (long : linkWords n ≤ length l) (port : 
   unfolding poppedAt
   waiting-popped-at first =
       on (eqb (youngestOf l p q) first)
-      (λ e. rw e (this-word l p (withoutBit (waitingOf l p) q) (omega arith) (without-small (waitingOf l p) q (good p port)) good))
+      (λ e. rw e (this-word l p (withBit (waitingOf l p) q false) (omega arith) (written-small 4 (waitingOf l p) q false (good p port) queue) good))
       (λ e. rw e (other-word l (oldestWord p q) (behindOf l p first) (λ r hr z. let same : r ≡ p = omega arith in omega arith) good))
 
 pub waiting-pushed-at : (n queue x : ℕ) → queue < 4 → {ports : List ℕ} → Each (λ (p : ℕ). p < 5) ports → (l : List ℕ) → linkWords n ≤ length l

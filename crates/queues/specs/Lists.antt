@@ -1,12 +1,12 @@
 -- The layout paper, "A queue": linked lists in link memory. What is read, what each operation writes, and the
 -- frames of a queue. Assumes nothing: these are definitions.
-use Prim.Native.Nat.{ℕ, zero, suc, _+_, _-_, _^_}
-use mathlib.Core.Bool.{Bool, _&&_}
+use Prim.Native.Nat.{ℕ, zero, suc, _+_}
+use mathlib.Core.Bool.{Bool, _&&_, true, false}
 use mathlib.Core.List.{List, [], _∷_}
 use lib.ListN.{getD, set}
 use lib.Dec.{eqb, ltb}
-use lib.Bits.{bitAnd, bitOr}
 use Rattle.rules.specs.Choice.{if_then_else_}
+use Rattle.layout.specs.Bits.{withBit}
 use Rattle.layout.specs.Places.{waitingWord, oldestWord, youngestWord, behindWord}
 use Rattle.queues.specs.declared.Highest.{Highest}
 use Rattle.queues.specs.declared.Highest.the-variants.{Queue, Nothing}
@@ -50,12 +50,6 @@ allWaitingInRange links =
     && waitingInRange links 3
     && waitingInRange links 4
 
-unfoldable pub withBit : ℕ → ℕ → ℕ
-withBit w q = bitOr w (2 ^ q)
-
-unfoldable pub withoutBit : ℕ → ℕ → ℕ
-withoutBit w q = bitAnd w (4294967295 - 2 ^ q)
-
 unfoldable pub highestOf : ℕ → Highest
 highestOf w =
     if bit w 3
@@ -86,13 +80,15 @@ unfoldable pub pushed : ℕ → ℕ → ℕ → ℕ → List ℕ → List ℕ
 pushed n p q x links =
     if bit (waitingOf links p) q
     then set (set links (behindWord p (clamped n (youngestOf links p q))) x) (youngestWord p q) x
-    else set (set (set links (oldestWord p q) x) (youngestWord p q) x) (waitingWord p) (withBit (waitingOf links p) q)
+    else
+    set (set (set links (oldestWord p q) x) (youngestWord p q) x) (waitingWord p)
+    (withBit (waitingOf links p) q true)
 
 -- the frame `first` leaves, which is the oldest
 unfoldable pub poppedAt : ℕ → ℕ → ℕ → List ℕ → List ℕ
 poppedAt p q first links =
     if eqb (youngestOf links p q) first
-    then set links (waitingWord p) (withoutBit (waitingOf links p) q)
+    then set links (waitingWord p) (withBit (waitingOf links p) q false)
     else set links (oldestWord p q) (behindOf links p first)
 
 unfoldable pub popped : ℕ → ℕ → ℕ → List ℕ → List ℕ

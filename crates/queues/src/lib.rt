@@ -14,32 +14,13 @@ use layout::QUEUE_STRIDE;
 use layout::WAITING;
 use layout::YOUNGEST;
 use layout::below;
+use layout::bits::bit;
+use layout::bits::with_bit;
 
 // The highest queue of a port that waits.
 pub enum Highest {
     Queue(u32),
     Nothing,
-}
-
-fn has_bit(word: u32, queue: u32) -> bool
-    requires { ⌜ queue < 4 ⌝ }
-    ensures { λ r. ⌜ r ≡ spec.bit word queue ⌝ }
-{
-    (word >> queue) % 2 == 1
-}
-
-fn with_bit(word: u32, queue: u32) -> u32
-    requires { ⌜ queue < 4 ⌝ }
-    ensures { λ r. ⌜ r ≡ spec.withBit word queue ⌝ }
-{
-    word | (1u32 << queue)
-}
-
-fn without_bit(word: u32, queue: u32) -> u32
-    requires { ⌜ queue < 4 ⌝ }
-    ensures { λ r. ⌜ r ≡ spec.withoutBit word queue ⌝ }
-{
-    word & !(1u32 << queue)
 }
 
 // Is a port's word of the queues that wait in range?
@@ -67,7 +48,7 @@ pub fn waits(links: &[u32], port: usize, queue: u32) -> bool
     requires { ⌜ (linkWords 0 ≤ length (now links)) × (port < 5) × (queue < 4) ⌝ }
     ensures { λ r. ⌜ r ≡ spec.bit (spec.waitingOf (now (links .entry)) port) queue ⌝ }
 {
-    has_bit(links[WAITING + PORT_STRIDE * port], queue)
+    bit(links[WAITING + PORT_STRIDE * port], queue)
 }
 
 // The word of a queue's oldest frame, as it stands there.
@@ -123,7 +104,7 @@ pub fn push(links: &mut [u32], n: usize, port: usize, queue: u32, cell: u32)
     let oldest = OLDEST + PORT_STRIDE * port + QUEUE_STRIDE * (queue as usize);
     let youngest = YOUNGEST + PORT_STRIDE * port + QUEUE_STRIDE * (queue as usize);
     let waiting = links[at];
-    if has_bit(waiting, queue) {
+    if bit(waiting, queue) {
         let last = below(links[youngest], n);
         links[BEHIND + port + CELL_STRIDE * last] = cell;
         links[youngest] = cell;
@@ -131,7 +112,7 @@ pub fn push(links: &mut [u32], n: usize, port: usize, queue: u32, cell: u32)
     }
     links[oldest] = cell;
     links[youngest] = cell;
-    links[at] = with_bit(waiting, queue);
+    links[at] = with_bit(waiting, queue, true);
 }
 
 // The oldest frame of a queue, whose first cell the caller has, leaves it. The words that it stood in keep its number.
@@ -143,7 +124,7 @@ pub fn pop_oldest(links: &mut [u32], n: usize, port: usize, queue: u32, first: u
     let oldest = OLDEST + PORT_STRIDE * port + QUEUE_STRIDE * (queue as usize);
     let youngest = YOUNGEST + PORT_STRIDE * port + QUEUE_STRIDE * (queue as usize);
     if links[youngest] as usize == first {
-        links[at] = without_bit(links[at], queue);
+        links[at] = with_bit(links[at], queue, false);
         return;
     }
     links[oldest] = links[BEHIND + port + CELL_STRIDE * first];

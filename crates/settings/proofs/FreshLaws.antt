@@ -8,7 +8,7 @@ use borrow.Author.Tests.{eqb-true, eq-eqb, not-true}
 use lib.Dec.{eqb, lit<}
 use lib.Bits.{bitAnd, and-le-l}
 use Rattle.rules.specs.Arguments.{OperationNumbers, bit}
-use Rattle.settings.proofs.BitLaws.{bit-and, zero-bits, five, all, each}
+use Rattle.layout.proofs.BitLaws.{bit-and, zero-bits, five, all, each}
 use Rattle.settings.specs.Operations.{operationIn, isOperationWord}
 use Rattle.settings.specs.Ports.{portIn, vlanIn, isVidWord}
 use Rattle.settings.specs.States.{stateIn, stateNumber, isStatesWord}

@@ -8,7 +8,6 @@ pub mod SettingsAlike
 pub mod SettingsLaws
 pub mod TableLaws
 pub mod TableSteps
-pub mod BitLaws
 pub mod RangeLaws
 pub mod OperationLaws
 pub mod PortLaws

@@ -8,7 +8,7 @@ use lib.Dec.{eqb}
 use lib.Pow.{shr-shr}
 use Rattle.rules.specs.Choice.{if_then_else_}
 use Rattle.rules.specs.Arguments.{bit}
-use Rattle.settings.proofs.BitLaws.{written-there, written-elsewhere, written-small, five}
+use Rattle.layout.proofs.BitLaws.{written-there, written-elsewhere, written-small, five}
 use Rattle.settings.specs.Maps.{isMapWord, queueIn, bpduIn, withQueue, withBpdu}
 
 -- ---- a queue is its two bits

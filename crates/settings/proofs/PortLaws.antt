@@ -9,7 +9,7 @@ use lib.Dec.{eqb, ltb, leb}
 use Rattle.rules.proofs.Choice.{and-left, and-right}
 use Rattle.rules.specs.Tags.{Header, headerOf}
 use Rattle.rules.specs.Arguments.{OperationNumbers, operationInRange, PortNumbers, portInRange, portOf, VlanNumbers, vlanInRange, isVid, bit}
-use Rattle.settings.proofs.BitLaws.{five}
+use Rattle.layout.proofs.BitLaws.{five}
 use Rattle.settings.proofs.RangeLaws.{port-range, vlan-range}
 use Rattle.settings.specs.Ports.{vidStart, vidEnd, isVidWord, portWord, portIn, vlanWord, vlanIn, headerIn, defaultIn, defaultOf, defaultNumber}
 

@@ -12,7 +12,7 @@ use Rattle.rules.specs.Choice.{if_then_else_}
 use Rattle.rules.proofs.Choice.{on, and-false, and-left, and-right}
 use Rattle.rules.specs.Arguments.{bit, stateOf}
 use Rattle.rules.specs.Settings.{departs, isBlocking, isListening, isLearning}
-use Rattle.settings.proofs.BitLaws.{bit-and, bit-or, bit-shift, bits-zero, no-bit-zero, same-bits, all, each, written-there, written-elsewhere, five}
+use Rattle.layout.proofs.BitLaws.{bit-and, bit-or, bit-shift, bits-zero, no-bit-zero, same-bits, all, each, written-there, written-elsewhere, five}
 use Rattle.settings.specs.States.{unusedStates, isStatesWord, stateNumber, stateIn, opens, withState, barNumber}
 
 -- ---- the range, bit by bit

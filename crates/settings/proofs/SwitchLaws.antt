@@ -8,7 +8,7 @@ use lib.Dec.{eqb}
 use lib.Bits.{bitAnd}
 use Rattle.rules.proofs.Choice.{on, and-false}
 use Rattle.rules.specs.Arguments.{bit}
-use Rattle.settings.proofs.BitLaws.{bit-and, bit-shift, bits-zero, no-bit-zero, written-there, written-elsewhere, five}
+use Rattle.layout.proofs.BitLaws.{bit-and, bit-shift, bits-zero, no-bit-zero, written-there, written-elsewhere, five}
 use Rattle.settings.specs.Switches.{unusedSwitches, isSwitchesWord, switchIn, withSwitch}
 
 -- the switches of one queue as a mask of ports

@@ -1,7 +1,6 @@
 pub mod Records
 pub mod Table
 pub mod SettingsOf
-pub mod Bits
 pub mod Ranges
 pub mod Operations
 pub mod Ports

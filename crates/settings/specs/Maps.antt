@@ -5,7 +5,7 @@ use Prim.Native.Nat.{ℕ, _+_, _*_, _/_, _%_, _^_}
 use mathlib.Core.Bool.{Bool}
 use lib.Dec.{ltb}
 use Rattle.rules.specs.Arguments.{bit}
-use Rattle.settings.specs.Bits.{withBit}
+use Rattle.layout.specs.Bits.{withBit}
 
 abbrev pub isMapWord : ℕ → Bool
 isMapWord w = ltb w 131072

@@ -9,7 +9,7 @@ use lib.Bits.{bitAnd, bitOr}
 use Rattle.rules.specs.Choice.{if_then_else_}
 use Rattle.rules.specs.Arguments.{bit}
 use Rattle.rules.specs.Settings.{PortState, isBlocking, isListening}
-use Rattle.settings.specs.Bits.{withBit}
+use Rattle.layout.specs.Bits.{withBit}
 
 -- bits 5 to 7, 13 to 15 and 21 to 31
 abbrev pub unusedStates : ℕ

@@ -5,7 +5,7 @@ use mathlib.Core.Bool.{Bool}
 use lib.Dec.{eqb}
 use lib.Bits.{bitAnd}
 use Rattle.rules.specs.Arguments.{bit}
-use Rattle.settings.specs.Bits.{withBit}
+use Rattle.layout.specs.Bits.{withBit}
 
 -- bits 5 to 7 of each byte
 abbrev pub unusedSwitches : ℕ

@@ -2,7 +2,6 @@
 pub mod port_words; // a port's words
 pub mod vlan_words; // a VLAN entry's words
 pub mod table; // the VLANs in use
-pub mod bits; // one bit of a word
 pub mod operation; // a tag operation
 pub mod port; // a port's default header, flags and assignment
 pub mod vlan; // a VLAN's VID, members and GID

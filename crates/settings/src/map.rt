@@ -1,9 +1,12 @@
 // The queue map and BPDU handling in one word.
-use crate::bits::bit;
-use crate::bits::with_bit;
+use layout::bits::bit;
+use layout::bits::with_bit;
 ghost use mathlib.Core.Path.{_≡_};
 ghost use Prim.Native.Nat.{_<_};
 ghost use Rattle.settings.specs.Maps.{isMapWord, queueIn, bpduIn, withQueue, withBpdu};
+
+// The bit of BPDU handling, above two bits for each PCP.
+const BPDU: u32 = 16;
 
 // Queue pcp / 2, BPDU handling on.
 pub const FRESH_MAP: u32 = 0x1_FA50;
@@ -27,7 +30,7 @@ pub fn queue_in(word: u32, pcp: u32) -> u32
 pub fn bpdu_in(word: u32) -> bool
     ensures { λ r. ⌜ r ≡ bpduIn word ⌝ }
 {
-    bit(word, 16)
+    bit(word, BPDU)
 }
 
 pub fn with_queue(word: u32, pcp: u32, queue: u32) -> u32
@@ -43,5 +46,5 @@ pub fn with_queue(word: u32, pcp: u32, queue: u32) -> u32
 pub fn with_bpdu(word: u32, on: bool) -> u32
     ensures { λ r. ⌜ r ≡ withBpdu word on ⌝ }
 {
-    with_bit(word, 16, on)
+    with_bit(word, BPDU, on)
 }

@@ -32,8 +32,20 @@ pub fn operation_in_range(operation: OperationSettings) -> bool
         & (operation.dei <= 1)
 }
 
-// 4095 * 4096
-const END: u32 = 16773120;
+// What a unit of each field is worth; the kind stands below the type.
+pub const TYPE: u32 = 8;
+
+pub const VID_SOURCE: u32 = 16;
+
+pub const PCP_SOURCE: u32 = 64;
+
+const DEI: u32 = 256;
+
+const PCP: u32 = 512;
+
+const VID: u32 = 4096;
+
+const END: u32 = 4095 * VID;
 
 pub fn is_operation_word(word: u32) -> bool
     ensures { λ r. ⌜ r ≡ isOperationWord word ⌝ }
@@ -61,12 +73,12 @@ pub fn pack_operation(o: OperationSettings) -> u32
     ensures { λ r. ⌜ r ≡ operationWord (operationIs o) ⌝ }
 {
     o.kind
-        + o.tag_type * 8
-        + o.vid_source * 16
-        + o.pcp_source * 64
-        + o.dei * 256
-        + o.pcp * 512
-        + o.vid * 4096
+        + o.tag_type * TYPE
+        + o.vid_source * VID_SOURCE
+        + o.pcp_source * PCP_SOURCE
+        + o.dei * DEI
+        + o.pcp * PCP
+        + o.vid * VID
 }
 
 // The given PCP, DEI and VID as a tag has them.
@@ -74,5 +86,5 @@ pub fn given_header(word: u32) -> u16
     requires { ⌜ word < operationEnd ⌝ }
     ensures { λ r. ⌜ headerOf r ≡ operationOf (operationIn word) .header ⌝ }
 {
-    (word / 256 % 16 * 4096 + word / 4096) as u16
+    (word / DEI % 16 * 4096 + word / VID) as u16
 }

@@ -1,7 +1,7 @@
 // A port's settings but for its state and its operation in one word.
-use crate::bits::at_most;
 use crate::operation::OperationSettings;
 use crate::operation::operation_in_range;
+use layout::bits::at_most;
 use layout::numbers::LAST_VID;
 ghost use mathlib.Core.Path.{_≡_};
 ghost use Prim.Native.Nat.{ℕ, _+_, _%_, _<_, min};
@@ -32,28 +32,36 @@ pub fn port_in_range(port: PortSettings) -> bool
         & operation_in_range(port.operation)
 }
 
-const START: u32 = 512;
-// 4095 * 512
-const END: u32 = 2096640;
+// What a unit of each field is worth; assignment stands below the flags.
+const FLAGS: u32 = 4;
+
+pub const DEI: u32 = 32;
+
+pub const PCP: u32 = 64;
+
+// On top, also of a VLAN's word.
+pub const VID: u32 = 512;
+
+const END: u32 = 4095 * VID;
 
 // VID 1 to 4,094 on top, and nothing above it: of a port and of a VLAN.
 pub fn is_vid_word(word: u32) -> bool
     ensures { λ r. ⌜ r ≡ isVidWord word ⌝ }
 {
-    (START <= word) & (word < END)
+    (VID <= word) & (word < END)
 }
 
 pub fn vid_in(word: u32) -> u32
     ensures { λ r. ⌜ r ≡ vidIn word ⌝ }
 {
-    word / 512
+    word / VID
 }
 
 pub fn pack_port(p: PortSettings) -> u32
     requires { ⌜ PortRange (portIs p) ⌝ }
     ensures { λ r. ⌜ r ≡ portWord (portIs p) ⌝ }
 {
-    p.assignment + p.flags * 4 + p.dei * 32 + p.pcp * 64 + p.vid * 512
+    p.assignment + p.flags * FLAGS + p.dei * DEI + p.pcp * PCP + p.vid * VID
 }
 
 // "The flags to drop frames with 0, 1 or 2 tags."
@@ -64,11 +72,12 @@ pub fn bars(word: u32, count: u32) -> bool
     (word >> (2 + count)) % 2 == 1
 }
 
-pub fn default_header(word: u32) -> u32
+// The port's default header, as a tag has it.
+pub fn default_header(word: u32) -> u16
     requires { ⌜ word < vidEnd ⌝ }
     ensures { λ r. ⌜ ((state : ℕ) (o : OperationNumbers) → headerOf r ≡ portOf (portIn state o word) .default) ⌝ }
 {
-    word / 32 % 16 * 4096 + word / 512
+    (word / DEI % 16 * 4096 + word / VID) as u16
 }
 
 // The VID assignment: 3 reads as 2.

@@ -1,6 +1,7 @@
 // A VLAN but for its operation in one word.
 use crate::operation::OperationSettings;
 use crate::operation::operation_in_range;
+use crate::port::VID;
 use layout::numbers::EVERY_PORT;
 use layout::numbers::LAST_GID;
 use layout::numbers::LAST_VID;
@@ -18,6 +19,9 @@ pub struct VlanSettings {
     pub operation: OperationSettings,
 }
 
+// What a unit of the GID is worth; the members stand below it.
+const GID: u32 = 32;
+
 pub fn vlan_in_range(vlan: VlanSettings) -> bool
     ensures { λ r. ⌜ r ≡ vlanInRange (vlanIs vlan) ⌝ }
 {
@@ -31,7 +35,7 @@ pub fn pack_vlan(v: VlanSettings) -> u32
     requires { ⌜ VlanRange (vlanIs v) ⌝ }
     ensures { λ r. ⌜ r ≡ vlanWord (vlanIs v) ⌝ }
 {
-    v.members + v.gid * 32 + v.vid * 512
+    v.members + v.gid * GID + v.vid * VID
 }
 
 // An entry of the table as a frame's way reads it: its operation is stored with the frame as it stands.
@@ -46,9 +50,9 @@ pub fn read_entry(word: u32, operation: u32) -> Entry
     ensures { λ r. ⌜ (entryIs r ≡ vlanOfWords word operation) × (r .operation ≡ operation) ⌝ }
 {
     Entry {
-        vid: word / 512,
-        members: word % 32,
-        gid: word / 32 % 16,
+        vid: word / VID,
+        members: word % GID,
+        gid: word / GID % 16,
         operation,
     }
 }

@@ -23,7 +23,7 @@ use Rattle.cells.specs.Chains.{follow}
 use Rattle.cells.specs.Free.{freeCount, firstFree, wordOf, sizeOf, portsOf, frameCells, givenBack}
 use Rattle.cells.specs.Bytes.{storeCells, headerIn, frameIn}
 use Rattle.cells.specs.Stored.{storedBytes, storedOf}
-use Rattle.cells.proofs.Counts.{count-head}
+use Rattle.layout.proofs.Counting.{times-here}
 use Rattle.cells.proofs.Steps.{follow-below}
 use Rattle.cells.proofs.Paths.{length-follow}
 use Rattle.cells.proofs.Words.{taken-size, taken-size-other, given-size, given-size-other}
@@ -138,7 +138,7 @@ module _ (n : ℕ) (cells links : List ℕ) (ws : List Waiting) (T : Traffic n c
       let k : ℕ = sizeOf links j - 1 in
       let row : frameCells n links j ≡ j ∷ follow n links k (Rattle.cells.specs.Chains.next n links j) =
       ap (λ (m : ℕ). follow n links m j) (let z : sizeOf links j ≡ Prim.Native.Nat.suc k = omega (arith, g .size) in z) in
-      omega (arith, others-apart j h j, ap (times j) row, count-head j (follow n links k (Rattle.cells.specs.Chains.next n links j)))
+      omega (arith, others-apart j h j, ap (times j) row, times-here j (follow n links k (Rattle.cells.specs.Chains.next n links j)))
 
   header-kept : (j : ℕ) → times j chain ≡ 0 → headerIn filled j ≡ headerIn cells j
   header-kept j none =

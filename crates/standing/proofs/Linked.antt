@@ -8,6 +8,7 @@ use lib.Dec.{eqb, ltb}
 use lib.ListN.{length, length-append}
 use borrow.Author.Tests.{eqb-true}
 use Rattle.layout.specs.Counting.{one, times}
+use Rattle.layout.proofs.Counting.{times-append}
 use Rattle.rules.specs.Choice.{if_then_else_, sift, among, without, changed, Each, nobody, also}
 use Rattle.rules.specs.Outcomes.{Frame}
 use Rattle.machine.specs.Waiting.{Waiting, size, cellsInUse, waitsAt, stay, leave, send, join}
@@ -16,11 +17,6 @@ use Rattle.rules.proofs.Choice.{on, each-append, each-front, each-back, each-fi
 use Rattle.machine.proofs.Waits.{in-use-append, other-queue}
 
 -- ---- lists
-
-pub times-append : (c : ℕ) (xs ys : List ℕ) → times c (xs ++ ys) ≡ times c xs + times c ys
-unfolding changed
-times-append c [] ys = omega arith
-times-append c (x ∷ xs) ys = omega (arith, times-append c xs ys)
 
 map-append : {A B : Type 0} (f : A → B) (xs ys : List A) → map f (xs ++ ys) ≡ map f xs ++ map f ys
 map-append f [] ys = refl

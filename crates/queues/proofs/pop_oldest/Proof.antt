@@ -47,14 +47,14 @@ cast-if1 c =
     let s = c .before .before in
     omega (arith, c .slice-known2 .given (youngestWord (s .args .port) (s .args .queue)))
 
-mul-without-bit : tie.Need-mul-without-bit
-mul-without-bit c = search needs
+mul-with-bit : tie.Need-mul-with-bit
+mul-with-bit c = search needs
 
-slice-read-without-bit : tie.Need-slice-read-without-bit
-slice-read-without-bit c = search needs
+slice-read-with-bit : tie.Need-slice-read-with-bit
+slice-read-with-bit c = search needs
 
-without-bit-requires : tie.Need-without-bit-requires
-without-bit-requires c κs = search needs
+with-bit-requires : tie.Need-with-bit-requires
+with-bit-requires c κs = search needs
 
 mul-links : tie.Need-mul-links
 mul-links c = search needs
@@ -68,7 +68,7 @@ same-length c = search needs
 returns : tie.Need-returns
 returns c =
     let s = c .before .before .before .before .before in
-    pop-last (s .args .n) (s .args .port) (s .args .queue) (s .args .links .now) (s .args .first) (c .without-bit .result) (c .before .before .if1 .taken) (c .without-bit .ensures)
+    pop-last (s .args .n) (s .args .port) (s .args .queue) (s .args .links .now) (s .args .first) (c .with-bit .result) (c .before .before .if1 .taken) (c .with-bit .ensures)
 
 add-links : tie.Need-add-links
 add-links c = search needs
@@ -116,9 +116,9 @@ pop-oldest-spec =
     mul-if1
     slice-read-if1
     cast-if1
-    mul-without-bit
-    slice-read-without-bit
-    without-bit-requires
+    mul-with-bit
+    slice-read-with-bit
+    with-bit-requires
     mul-links
     slice-write-links
     same-length

@@ -1,6 +1,7 @@
 -- `gufhrandi::perform::on_addresses` meets its contract: each arm is the C function of its name. Assumes nothing.
 use borrow.Author.Needs.{needs}
-use Rattle.gufhrandi.specs.Asked.{addressRun}
+use Rattle.gufhrandi.specs.Runs.{run}
+use Rattle.gufhrandi.specs.Asked.{addressAsked, addressRun}
 use Rattle.gufhrandi.proofs.perform.on_addresses.Statement.{statement}
 use Rattle.gufhrandi.proofs.perform.on_addresses.Tie as tie
 
@@ -26,21 +27,21 @@ same-length : tie.Need-same-length
 same-length c = search needs
 
 returns : tie.Need-returns
-unfolding addressRun
+unfolding run addressAsked addressRun
 returns c = let called = c .before .before in rw (called .before .before .enum-told .given .1) (called .gufhrandi-age .ensures)
 
 same-length-2 : tie.Need-same-length-2
 same-length-2 c = search needs
 
 returns-2 : tie.Need-returns-2
-unfolding addressRun
+unfolding run addressAsked addressRun
 returns-2 c = let called = c .before .before in rw (called .before .before .before .call .given .1) (called .gufhrandi-set-static .ensures)
 
 same-length-3 : tie.Need-same-length-3
 same-length-3 c = search needs
 
 returns-3 : tie.Need-returns-3
-unfolding addressRun
+unfolding run addressAsked addressRun
 returns-3 c = let called = c .before .before in rw (called .before .before .before .call2 .given .1) (called .gufhrandi-remove .ensures)
 
 pub on-addresses-spec : {M : Type 1} → statement M

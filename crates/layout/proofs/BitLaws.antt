@@ -14,7 +14,7 @@ use borrow.Author.Tests.{eqb-true, eqb-false, eq-eqb, ne-eqb}
 use Rattle.rules.proofs.Choice.{on, and-left, and-right}
 use Rattle.rules.specs.Choice.{if_then_else_}
 use Rattle.rules.specs.Arguments.{bit}
-use Rattle.settings.specs.Bits.{less, withBit}
+use Rattle.layout.specs.Bits.{less, withBit}
 
 -- ---- one digit
 

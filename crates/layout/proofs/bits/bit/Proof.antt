@@ -1,9 +1,9 @@
--- `settings::bits::bit` meets its contract. Assumes nothing.
+-- `layout::bits::bit` meets its contract. Assumes nothing.
 use mathlib.Core.Path.{refl}
 use borrow.Author.Needs.{needs}
 use Rattle.rules.specs.Arguments.{bit}
-use Rattle.settings.proofs.bits.bit.Statement.{statement}
-use Rattle.settings.proofs.bits.bit.Tie as tie
+use Rattle.layout.proofs.bits.bit.Statement.{statement}
+use Rattle.layout.proofs.bits.bit.Tie as tie
 
 shr-result : tie.Need-shr-result
 shr-result c = search needs

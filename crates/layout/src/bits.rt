@@ -2,7 +2,7 @@
 ghost use mathlib.Core.Path.{_≡_};
 ghost use Prim.Native.Nat.{_<_, _^_, min};
 ghost use Rattle.rules.specs.Arguments.{bit};
-ghost use Rattle.settings.specs.Bits.{less, withBit};
+ghost use Rattle.layout.specs.Bits.{less, withBit};
 
 pub fn at_most(x: u32, most: u32) -> u32
     ensures { λ r. ⌜ r ≡ min x most ⌝ }

@@ -1,8 +1,8 @@
--- `settings::bits::with_bit` meets its contract. Assumes nothing.
+-- `layout::bits::with_bit` meets its contract. Assumes nothing.
 use borrow.Author.Needs.{needs}
-use Rattle.settings.specs.Bits.{withBit}
-use Rattle.settings.proofs.bits.with_bit.Statement.{statement}
-use Rattle.settings.proofs.bits.with_bit.Tie as tie
+use Rattle.layout.specs.Bits.{withBit}
+use Rattle.layout.proofs.bits.with_bit.Statement.{statement}
+use Rattle.layout.proofs.bits.with_bit.Tie as tie
 
 power-requires : tie.Need-power-requires
 power-requires c κs = search needs

@@ -1,12 +1,12 @@
--- `settings::bits::power` meets its contract: no bit is shifted out. Assumes nothing.
+-- `layout::bits::power` meets its contract: no bit is shifted out. Assumes nothing.
 use mathlib.Core.Path.{_∙_}
 use native.Mathlib.Nat.{one-mul}
 use native.Mathlib.Omega.{arith}
 use borrow.Author.Needs.{needs}
 use lib.Dec.{lit<}
 use lib.Pow.{shl-exact}
-use Rattle.settings.proofs.bits.power.Statement.{statement}
-use Rattle.settings.proofs.bits.power.Tie as tie
+use Rattle.layout.proofs.bits.power.Statement.{statement}
+use Rattle.layout.proofs.bits.power.Tie as tie
 
 shl-result : tie.Need-shl-result
 shl-result c = search needs
