@@ -9,10 +9,10 @@
 #include <stdlib.h>
 #include <string.h>
 
-enum { CELLS = 2048, MOST_LINK_WORDS = 1024 + 20 * CELLS };
+enum { CELLS = GUFHRANDI_MOST_CELLS };
 
-static uint8_t cells[GUFHRANDI_CELL * CELLS];
-static uint32_t links[MOST_LINK_WORDS];
+static uint8_t cells[GUFHRANDI_CELL_BYTES(CELLS)];
+static uint32_t links[GUFHRANDI_LINK_WORDS(CELLS)];
 static size_t cell_bytes, link_words;
 static uint64_t addresses[GUFHRANDI_PLACES];
 static uint8_t frame[4096], out[4096];
@@ -111,8 +111,17 @@ static void tag(uint8_t *at, uint32_t vid)
     at[2] = (uint8_t)(vid / 256), at[3] = (uint8_t)(vid % 256);
 }
 
-/* The operation of a kind's departing ports: kinds 1 pop, 2 push, 3 swap. */
-static uint32_t operation_of(const char *kind) { return !strcmp(kind, "pop") ? 1 : !strcmp(kind, "push") ? 2 : !strcmp(kind, "swap") ? 3 : 0; }
+/* What a kind's departing ports do; a new tag has VID 20. */
+static gufhrandi_port_settings departing_port(const char *kind)
+{
+    gufhrandi_port_settings settings = gufhrandi_fresh_port();
+    settings.operation.kind = !strcmp(kind, "pop")    ? GUFHRANDI_OPERATION_POP
+                              : !strcmp(kind, "push") ? GUFHRANDI_OPERATION_PUSH
+                              : !strcmp(kind, "swap") ? GUFHRANDI_OPERATION_SWAP
+                                                      : GUFHRANDI_OPERATION_NONE;
+    settings.operation.vid = 20;
+    return settings;
+}
 
 int main(int count, char **words)
 {
@@ -124,29 +133,31 @@ int main(int count, char **words)
     unsigned long known = strtoul(words[4], NULL, 10), turns = strtoul(words[6], NULL, 10);
     uint32_t cell_count = (uint32_t)strtoul(words[5], NULL, 10);
     link_words = gufhrandi_link_words(cell_count);
-    cell_bytes = GUFHRANDI_CELL * (size_t)cell_count;
+    cell_bytes = GUFHRANDI_CELL_BYTES((size_t)cell_count);
     void (*turn)(size_t, uint32_t) = !strcmp(mode, "switch") ? by_switch : !strcmp(mode, "cells") ? by_cells
                                    : !strcmp(mode, "copy") ? by_copy : by_none;
-    if (length < 60 || length > 4083 || ports < 1 || ports > 4 || known < 1 || link_words == 0)
+    if (length < GUFHRANDI_SHORTEST || length > GUFHRANDI_LONGEST || ports < 1 || ports > 4 || known < 1 || link_words == 0)
         return 2;
     start_cells();
     if (turn == by_switch) {
-        if (gufhrandi_fresh(LENT).refusal != 0)
+        if (gufhrandi_fresh(LENT).refusal != GUFHRANDI_DONE)
             return 1;
         for (unsigned long a = 0; a < known; a++) {
             address(frame, 0xFFFF);
             address(frame + 6, a);
-            if (gufhrandi_frame_in(LENT, 1, frame, 60).refusal != 0)
+            if (gufhrandi_frame_in(LENT, 1, frame, GUFHRANDI_SHORTEST).refusal != GUFHRANDI_DONE)
                 return 1;
-            for (uint32_t port = 0; port < 5; port++)
+            for (uint32_t port = 0; port < GUFHRANDI_PORTS; port++)
                 gufhrandi_drain(links, link_words, port);
         }
-        if (1 < ports && gufhrandi_vlan(links, link_words, 1, (2u << ports) - 1, 0, 0, 0, 2, 2, 0, 0, 0).refusal != 0)
+        if (1 < ports
+            && gufhrandi_set_vlan(links, link_words, gufhrandi_plain_vlan(1, (2u << ports) - 1, 0)).refusal != GUFHRANDI_DONE)
             return 1;
+        gufhrandi_port_settings departing = departing_port(kind);
+        for (uint32_t port = 1; departing.operation.kind != GUFHRANDI_OPERATION_NONE && port < GUFHRANDI_PORTS; port++)
+            if (gufhrandi_set_port(links, link_words, port, departing).refusal != GUFHRANDI_DONE)
+                return 1;
     }
-    for (uint32_t port = 1; turn == by_switch && operation_of(kind) != 0 && port < 5; port++)
-        if (gufhrandi_port(links, link_words, port, 0, 1, 1, 0, 0, 0, operation_of(kind), 0, 2, 2, 20, 0, 0).refusal != 0)
-            return 1;
     address(frame + 6, 0xFFFE);
     if (!strcmp(kind, "tagged") || !strcmp(kind, "twice") || !strcmp(kind, "pop") || !strcmp(kind, "swap"))
         tag(frame + 12, 1);

@@ -1,9 +1,6 @@
 """The command: what it prints and the status that it ends with."""
 
-import pathlib
 import subprocess
-import tempfile
-import unittest
 
 import support
 
@@ -14,30 +11,10 @@ NOT_MET = "lesson: two\ntake at 0\nexpect 60 bytes from queue 1\n"
 BAD = "lesson: three\ntake at port 0\n"
 
 
-class Command(unittest.TestCase):
-    def setUp(self):
-        directory = tempfile.TemporaryDirectory()
-        self.addCleanup(directory.cleanup)
-        self.directory = pathlib.Path(directory.name)
-
-    def file(self, name, text):
-        path = self.directory / name
-        path.write_text(text, encoding="utf-8")
-        return str(path)
-
-    def ends(self, status, *arguments):
-        """Standard output and standard error of the command, which must end with this status."""
-        ran = subprocess.run([support.COMMAND, *arguments], stdout=subprocess.PIPE, stderr=subprocess.PIPE, check=False)
-        self.assertEqual(ran.returncode, status, ran.stdout + ran.stderr)
-        return ran.stdout, ran.stderr.decode()
-
+class Command(support.CommandCase):
     def test_all_met(self):
         said, _ = self.ends(0, "run", self.file("met.lesson", MET), "--bench", MODEL)
-        self.assertIn("   3  expect empty  [met]\n\n1 expectations met, 0 not met\n", said.decode())
-
-    def test_the_first_morning(self):
-        said, _ = self.ends(0, "run", *support.LESSONS, "--bench", MODEL)
-        self.assertEqual(said.decode().count(", 0 not met\n"), len(support.LESSONS))
+        self.assertIn("   3  expect empty  [met]\n\n1 expectation met, 0 not met\n", said.decode())
 
     def test_a_wrong_expectation(self):
         said, _ = self.ends(1, "run", self.file("not.lesson", NOT_MET), "--bench", MODEL)
@@ -68,14 +45,17 @@ class Command(unittest.TestCase):
         said, _ = self.ends(2, "run", self.file("met.lesson", MET), self.file("bad.lesson", BAD), "--bench", MODEL)
         self.assertEqual(said, b"")
 
-    def test_a_lesson_that_is_not_there(self):
-        path = str(self.directory / "none.lesson")
-        self.assertEqual(self.ends(2, "records", path)[1], f"{path}: No such file or directory\n")
-
-    def test_a_lesson_that_is_no_text(self):
-        path = self.directory / "bytes.lesson"
-        path.write_bytes(b"lesson: \xff\n")
-        self.assertEqual(self.ends(2, "records", str(path))[1], f"{path}: expected a text in UTF-8\n")
+    def test_files_that_are_no_lesson(self):
+        missing, folder, empty = str(self.directory / "none.lesson"), str(self.directory), self.file("empty.lesson", "")
+        messages = {
+            missing: f"{missing}: there is no such file\n",
+            folder: f"{folder}: expected a lesson file, found a folder\n",
+            empty: f"{empty}: expected 'lesson: TITLE', found an empty file\n",
+            "nothing": "nothing: there is no such file, and no lesson of that number or name: see 'lesson list'\n",
+        }
+        for given, message in messages.items():
+            for arguments in (["run", given, "--bench", MODEL], ["records", given]):
+                self.assertEqual(self.ends(2, *arguments), (b"", message))
 
     def test_records(self):
         said, _ = self.ends(0, "records", self.file("met.lesson", MET.replace("take", "2 times: take")))
@@ -86,6 +66,9 @@ class Command(unittest.TestCase):
         failures = {
             "no-such-program": "bench program no-such-program: No such file or directory\n",
             "false": "bench program false: ended with status 1\n",
+            f"echo {'1' * 3000}": f"bench program: expected a line '1 2 ..', found '{'1' * 58}..'\n",
+            "echo 1 2 ok 60 0 00": "bench program: expected a line '1 2 ..', found '1 2 ok 60 0 00'\n",
+            "echo 1 2 ok 1 0 0": "bench program: expected a line '1 2 ..', found '1 2 ok 1 0 0'\n",
             "true": "bench program: expected 1 lines, found 0\n",
             "echo 1 2 ok 0": "bench program: expected a line '1 2 ..', found '1 2 ok 0'\n",
             "echo 2 2 ok 0 0": "bench program: expected a line '1 2 ..', found '2 2 ok 0 0'\n",
@@ -98,3 +81,18 @@ class Command(unittest.TestCase):
     def test_a_bench_program_of_several_words(self):
         self.ends(0, "run", self.file("met.lesson", MET), "--bench", "echo 1 2 ok 0 0")
         self.ends(1, "run", self.file("met.lesson", MET), "--bench", "echo 1 2 ok 60 0")
+
+    def test_a_report_that_nobody_reads_on(self):
+        """As in 'lesson run --all | head': no traceback."""
+        running = subprocess.Popen(
+            [support.COMMAND, "run", "--all", "--bench", MODEL], stdout=subprocess.PIPE, stderr=subprocess.PIPE
+        )
+        running.stdout.close()
+        said = running.stderr.read()
+        running.stderr.close()
+        self.assertEqual((running.wait(), said), (2, b""))
+
+    def test_long_lines_of_a_lesson_are_cut(self):
+        text = f"lesson: long\nrecord kind 99: {'00 ' * 2000}\nexpect ok 0 0\n"
+        said, _ = self.ends(1, "run", self.file("long.lesson", text), "--bench", MODEL)
+        self.assertLess(max(len(line) for line in said.decode().splitlines()), 300)

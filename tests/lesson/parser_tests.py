@@ -85,6 +85,26 @@ BAD = {
     "counter of another name": (["counter lost at 0"], "2: expected a counter: offered; shorter than 60; longer than 4,083;"),
     "counter without a port": (["counter offered"], "2: expected 'at', found the end of the line"),
     "switch of another name": (["queue 1 at 0: maybe"], "2: expected one of on, off, found 'maybe'"),
+    "tag expected behind another word": (
+        ["take at 0", "expect 64 bytes from queue 0, vid 3"],
+        "3: expected 'tag' or 'untagged', found 'vid'",
+    ),
+    "tag expected behind a comma": (
+        ["take at 0", "expect 64 bytes from queue 0, tag 8100 vid 3, untagged"],
+        "3: expected 'tag', found 'untagged'",
+    ),
+    "tags expected of an empty port": (["take at 0", "expect empty, untagged"], "3: expected the end of the line, found ','"),
+    "number of very many digits": ([f"take at {'9' * 5000}"], f"2: expected a port, a number 0 to 255, found '{'9' * 58}..'"),
+    "record that is too long": (
+        [f"record kind 1: {'00' * 65534}"],
+        "2: expected at most 65533 bytes, not 65534",
+    ),
+    "bytes that are many and none": (
+        [f"record kind 1: {'0' * 4001}"],
+        f"2: expected bytes such as 00 FF behind the colon, not '{'0' * 58}..'",
+    ),
+    "word of thousands of letters": ([f"{'p' * 9000} 0: vid 10"], "2: expected '>', '#', address, expect, or a statement: port,"),
+    "letter that cannot be seen": (["take\u200b at 0"], "2: expected '>', '#', address,"),
     "half a byte": (["record kind 99: 00 F"], "2: expected bytes such as 00 FF behind the colon, not '00 F'"),
     "words behind a statement": (["age twice"], "2: expected the end of the line, found 'twice'"),
     "zero times": (["0 times: age"], "2: expected how many times, a number 1 to 1000, found '0'"),
@@ -129,7 +149,8 @@ TITLES = {
     "no title": ("age\n", "test.lesson:1: expected 'lesson', found 'age'"),
     "title behind notes": ("# a note\n\n> words\n", "test.lesson:3: expected 'lesson', found '>'"),
     "empty title": ("lesson:\n", "test.lesson:1: expected a title, found the end of the line"),
-    "empty file": ("", "test.lesson: expected 'lesson: TITLE', found the end of the file"),
+    "empty file": ("", "test.lesson: expected 'lesson: TITLE', found an empty file"),
+    "notes alone": ("# a note\n", "test.lesson: expected 'lesson: TITLE', found the end of the file"),
 }
 
 
@@ -139,7 +160,9 @@ class BadLine(unittest.TestCase):
         lines, expected = case
         with self.assertRaises(LessonError) as raised:
             support.lesson(*lines)
-        self.assertEqual(str(raised.exception)[: len("test.lesson:" + expected)], "test.lesson:" + expected)
+        said = str(raised.exception)
+        self.assertEqual(said[: len("test.lesson:" + expected)], "test.lesson:" + expected)
+        self.assertLess(len(said), 700)
 
 
 @support.for_each(TITLES)

@@ -49,14 +49,12 @@ class AgainstBytes(unittest.TestCase):
         account, frames, departures = Account(), 0, 0
         for call, line in zip(calls, ran.stdout.decode().splitlines(), strict=True):
             *answer, written = line.split() if isinstance(call, Take) else [*line.split(), ""]
-            known = account.follow(0, call, read_line(" ".join(answer))[2])
+            worked = account.play(0, call, None)
+            self.assertEqual(worked.answer, read_line(" ".join(answer))[2])
             frames += isinstance(call, FrameIn)
             if isinstance(call, Take):
-                self.assertIsInstance(known, Departure)
-                frame = known.arrival.frame
-                payload = frame.bytes()[12 + 4 * len(frame.decoded_tags()) :]
-                expected = frame.bytes()[:12] + b"".join(tag.bytes() for tag in known.tags) + payload
-                self.assertEqual(written, expected.ljust(60, b"\0").hex())
+                self.assertIsInstance(worked.why, Departure)
+                self.assertEqual(written, worked.why.bytes().hex())
                 departures += 1
         self.assertEqual(departures, frames)
         self.assertEqual(departures, 3 * 7 * 7 * 4 * 2)
@@ -127,25 +125,22 @@ WORKED_OUT = {
     "drained frames are gone": ([FRAME, "drain at 1", FRAME, "take at 1"], "worked out: frame of line 4, VLAN 1;"),
 }
 
-# Made-up answers: what the account cannot know.
+# Made-up answers behind a record that was done: what the account cannot know.
 NOT_KNOWN = {
-    "another length": ([FRAME, "take at 1"], [Done(0, 2), Done(64, 0)], "tags: not shown by the bench program"),
-    "another queue": ([FRAME, "take at 1"], [Done(0, 2), Done(60, 3)], "tags: not shown by the bench program"),
-    "another port": ([FRAME, "take at 2"], [Done(0, 2), Done(60, 0)], "tags: not shown by the bench program"),
     "departure behind a record": (
         ["record kind 20: 01", FRAME, "take at 1"],
         [Done(), Done(0, 2), Done(60, 0)],
-        "tags: not shown by the bench program",
+        "tags: not known behind the record of line 2",
     ),
     "arrival behind a record": (
         ["record kind 20: 01", FRAME],
         [Done(), Done(0, 2)],
-        "worked out: came untagged; VID and queue: not shown by the bench program",
+        "worked out: came untagged; VID, queue, address and why: not known behind the record of line 2",
     ),
-    "a port that should be refused": (
-        [FRAME.replace("at 0", "at 9")],
-        [Done(0, 2)],
-        "worked out: came untagged; VID and queue: not shown by the bench program",
+    "behind the first of two records": (
+        [FRAME, "record kind 20: 01", "record kind 21: 01", FRAME],
+        [Done(0, 30), Done(), Done(), Done(0, 30)],
+        "why: not known behind the record of line 3",
     ),
 }
 
@@ -164,6 +159,7 @@ class NotKnown(unittest.TestCase):
         report = support.told(support.lesson(*lines), answers)
         self.assertIn(words, report)
         self.assertNotIn("leaves", report)
+        self.assertNotIn("NOT AS WORKED OUT", report)
 
 
 class Nothing(unittest.TestCase):

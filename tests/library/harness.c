@@ -7,9 +7,9 @@
 #include <stdlib.h>
 #include <string.h>
 
-enum { CELLS = 200, LINK_WORDS = 1024 + 20 * CELLS, GUARD = 64, OUT = 5000, LONGEST = 5000 };
+enum { CELLS = 200, LINK_WORDS = GUFHRANDI_LINK_WORDS(CELLS), GUARD = 64, OUT = 5000, LONGEST = 5000 };
 
-static struct { uint8_t before[GUARD], bytes[GUFHRANDI_CELL * CELLS], behind[GUARD]; } cells;
+static struct { uint8_t before[GUARD], bytes[GUFHRANDI_CELL_BYTES(CELLS)], behind[GUARD]; } cells;
 static struct { uint8_t before[GUARD]; uint32_t words[LINK_WORDS]; uint8_t behind[GUARD]; } links;
 static struct { uint8_t before[GUARD]; uint64_t numbers[GUFHRANDI_PLACES]; uint8_t behind[GUARD]; } addresses;
 static struct { uint8_t before[GUARD], bytes[OUT], behind[GUARD]; } out;
@@ -36,18 +36,13 @@ static int guards_kept(void)
 
 static uint32_t two(const uint8_t *b) { return b[0] + 256u * b[1]; }
 
-static uint64_t address(const uint8_t *b)
-{
-    uint64_t a = 0;
-    for (int i = 0; i < 6; i++)
-        a = a * 256 + b[i];
-    return a;
-}
-
 /* the seven numbers of an operation of 8 bytes */
 #define OPERATION(b) (b)[0], (b)[1], (b)[2], (b)[3], two((b) + 4), (b)[6], (b)[7]
 
-static gufhrandi_answer bad(void) { return (gufhrandi_answer){11, 0, 0}; }
+/* "bench program only: bad record" */
+enum { BAD_RECORD = 11 };
+
+static gufhrandi_answer bad(void) { return (gufhrandi_answer){BAD_RECORD, 0, 0}; }
 
 /* sizes of bodies by kind; frame-in has any from 1 on */
 static const int size_of[14] = {-1, -1, 1, 0, 2, 16, 12, 2, 8, 7, 2, 3, 1, 1};
@@ -64,8 +59,8 @@ static gufhrandi_answer call(uint32_t kind, const uint8_t *b, size_t n)
     case 5: return gufhrandi_port(LINKS, b[0], b[1], b[2], two(b + 3), b[5], b[6], b[7], OPERATION(b + 8));
     case 6: return gufhrandi_vlan(LINKS, two(b), b[2], b[3], OPERATION(b + 4));
     case 7: return gufhrandi_clear_vlan(LINKS, two(b));
-    case 8: return gufhrandi_set_static(ADDRESSES, b[0], b[1], address(b + 2));
-    case 9: return gufhrandi_remove(ADDRESSES, b[0], address(b + 1));
+    case 8: return gufhrandi_set_static(ADDRESSES, b[0], b[1], gufhrandi_address(b + 2));
+    case 9: return gufhrandi_remove(ADDRESSES, b[0], gufhrandi_address(b + 1));
     case 10: return gufhrandi_map(LINKS, b[0], b[1]);
     case 11: return gufhrandi_queue_switch(LINKS, b[0], b[1], b[2]);
     case 12: return gufhrandi_drain(LINKS, b[0]);
@@ -75,7 +70,7 @@ static gufhrandi_answer call(uint32_t kind, const uint8_t *b, size_t n)
 
 static int line(unsigned long number, uint32_t kind, gufhrandi_answer a)
 {
-    if (a.refusal != 0) {
+    if (a.refusal != GUFHRANDI_DONE) {
         printf("%lu %u refused %u\n", number, kind, a.refusal);
         return 1;
     }
@@ -97,7 +92,7 @@ int main(void)
     memset(&links, 0xA5, sizeof links);
     memset(&addresses, 0xA5, sizeof addresses);
     memset(&out, 0xA5, sizeof out);
-    if (gufhrandi_link_words(CELLS) != LINK_WORDS || gufhrandi_fresh(LENT).refusal != 0)
+    if (gufhrandi_link_words(CELLS) != LINK_WORDS || gufhrandi_fresh(LENT).refusal != GUFHRANDI_DONE)
         return 3;
     for (unsigned long number = 1;; number++) {
         uint8_t head[2];

@@ -1,2 +1,10 @@
-pub mod Lining
+pub mod Transferring
+pub mod Taking
 pub mod Reading
+pub mod Lining
+pub mod Acting
+pub mod Carrying
+pub mod Inputs
+pub mod Telling
+pub mod Running
+pub mod Starting

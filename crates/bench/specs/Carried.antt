@@ -8,21 +8,18 @@ use Rattle.layout.specs.declared.answers.Answer.{Answer}
 use Rattle.layout.specs.Answers.{refusedBy}
 use Rattle.records.specs.declared.requests.Request.{Request}
 use Rattle.records.specs.declared.requests.Request.the-variants.{Asked, Bad}
-use Rattle.gufhrandi.specs.Memories.{Done}
+use Rattle.gufhrandi.specs.Memories.{Memories, Done}
 use Rattle.gufhrandi.specs.Runs.{run}
-use Rattle.gufhrandi.specs.Asked.{memories, asked}
-
--- cell memory, link memory, address memory, and the take-out buffer
-abbrev pub Memories : Type 0
-Memories = List ℕ × List ℕ × List ℕ × List ℕ
+use Rattle.gufhrandi.specs.Asked.{asked}
 
 abbrev pub leaving : Done → Answer × Memories
-leaving done =
-    (done .answer, (done .memories .cells, done .memories .links, done .memories .addresses, done .buffer))
+leaving done = (done .answer, done .memories)
 
-module _ (cells links addresses out : List ℕ) where
-  -- `bytes`: the record without its length
-  unfoldable pub carriedOut : List ℕ → Request → Answer × Memories
-  carriedOut bytes (Asked call) =
-      leaving (run (memories cells links addresses) (asked (drop 3 bytes) (length out) call) out)
-  carriedOut bytes Bad = (refusedBy badRecord, (cells, links, addresses, out))
+-- `out`: the take-out buffer, whose bytes no line shows; `bytes`: the record without its length
+unfoldable pub carriedOut : Memories → List ℕ → List ℕ → Request → Answer × Memories
+carriedOut m out bytes (Asked call) = leaving (run m (asked (drop 3 bytes) (length out) call) out)
+carriedOut m out bytes Bad = (refusedBy badRecord, m)
+
+-- of what a take comes to, the answer and link memory
+abbrev pub taken : Answer × (List ℕ × List ℕ) → Answer × List ℕ
+taken (answer, (links, out)) = (answer, links)

@@ -1,4 +1,8 @@
+pub mod Transfers
 pub mod Steady
 pub mod Carried
-pub mod Lined
-pub mod Stepped
+pub mod Progressing
+pub mod Told
+pub mod Sessions
+pub mod SessionTheorems
+pub mod Played

@@ -1,4 +1,4 @@
--- What holds between two records: the bytes not yet taken and the waiting lines lie in their buffers. Assumes nothing.
+-- What holds between two steps: the bytes not yet taken and the waiting lines lie in their buffers. Assumes nothing.
 use Prim.Native.Nat.{ℕ, _≤_}
 use Rattle.bench.specs.declared.progress.Progress.{Progress}
 

@@ -1,41 +1,59 @@
-// Reading the input.
-use crate::lines::flush;
+// Reading more of the input.
+use crate::device::Transfer;
+use crate::device::receive;
 use crate::progress::Progress;
-use libc::STDIN_FILENO;
+use gufhrandi::handed::is_bytes;
 ghost use mathlib.Core.Path.{_≡_};
-ghost use Prim.Native.Nat.{_+_, _≤_};
-ghost use lib.ListN.{length, take};
-ghost use Rattle.bench.specs.Steady.{Steady};
-ghost use Rattle.bench.specs.Stepped.{Refilled};
+ghost use Prim.Native.Nat.{_≤_};
+ghost use lib.ListN.{length};
+ghost use Rattle.records.specs.declared.framing.Next.the-variants.{More};
+ghost use Rattle.bench.specs.Progressing.{nextAt, Refilled};
 
-// Reads into the buffer from place `from` on. Answers how many bytes came, 0 at the end of the input.
-fn read_more(input: &mut [u8], from: usize) -> usize
-    requires { ⌜ from ≤ length (now input) ⌝ }
-    ensures { λ r. ⌜ (from + r ≤ length (now (input .entry)))
-        × (take from (now (input .exit)) ≡ take from (now (input .entry))) ⌝ }
+// What was read and not yet taken moves to the front of the buffer, and what comes stands behind it. A buffer of 65,537
+// bytes has room then: full, it never asks for more.
+pub fn refill(input: &mut [u8], p: Progress) -> Progress
+    requires { ⌜ (p .at ≤ p .end) × (p .end ≤ length (now input)) × (65537 ≤ length (now input))
+        × (nextAt (now input) p ≡ More) ⌝ }
+    ensures { λ r. ⌜ Refilled p (now (input .entry)) (now (input .exit)) r ⌝ }
 {
-    let part = &mut input[from..];
-    let got = libc::read(STDIN_FILENO, part);
-    io::count(got, part)
-}
-
-// Moves what was not yet taken to the front of the buffer and reads behind it. The lines are written first, so that
-// whoever hands over a record sees its line.
-pub fn refill(input: &mut [u8], text: &[u8], p: Progress) -> Progress
-    requires { ⌜ Steady p (length (now input)) (length (now text)) ⌝ }
-    ensures { λ r. ⌜ Refilled p r (now (input .entry)) (now (input .exit)) ⌝ }
-    ensures { λ r. ⌜ Steady r (length (now (input .entry))) (length (now (text .entry))) ⌝ }
-{
-    let on = flush(text, p.used);
-    records::move_to_front(input, p.at, p.end);
-    let kept = p.end - p.at;
-    let got = read_more(input, kept);
-    Progress {
-        at: 0,
-        end: kept + got,
-        used: 0,
-        number: p.number,
-        ended: got == 0,
-        on,
+    let at = p.at;
+    let end = p.end;
+    is_bytes(&input[at..end]);
+    records::move_to_front(input, at, end);
+    let kept = end - at;
+    let received = receive(input, kept);
+    is_bytes(input);
+    let came = received.told();
+    match came {
+        Transfer::Bytes(n) => Progress {
+            at: 0,
+            end: kept + n,
+            used: p.used,
+            sent: p.sent,
+            number: p.number,
+            ended: p.ended,
+            on: p.on,
+            failed: p.failed,
+        },
+        Transfer::Nothing => Progress {
+            at: 0,
+            end: kept,
+            used: p.used,
+            sent: p.sent,
+            number: p.number,
+            ended: true,
+            on: p.on,
+            failed: p.failed,
+        },
+        _ => Progress {
+            at: 0,
+            end: kept,
+            used: p.used,
+            sent: p.sent,
+            number: p.number,
+            ended: p.ended,
+            on: false,
+            failed: true,
+        },
     }
 }

@@ -1,36 +1,50 @@
 // The lines, gathered before they are written.
+use crate::device::send;
+use crate::progress::Progress;
 use layout::answers::Answer;
-use libc::STDOUT_FILENO;
+use std::num::wrapping_add_u64;
 ghost use mathlib.Core.Path.{_≡_};
 ghost use Prim.Native.Nat.{_+_, _≤_};
 ghost use lib.ListN.{length};
-ghost use Rattle.bench.specs.Lined.{lineAt, lined};
+ghost use Rattle.bench.specs.Progressing.{Flushed, lined};
 
-// Writes the first bytes of the text, and answers whether that went well.
-pub fn flush(text: &[u8], used: usize) -> bool
-    requires { ⌜ used ≤ length (now text) ⌝ }
+// Writes the lines that wait. Where that fails the run ends: a line behind a gap would tell of another record.
+pub fn flush(text: &[u8], p: Progress) -> Progress
+    requires { ⌜ p .used ≤ length (now text) ⌝ }
+    ensures { λ r. ⌜ Flushed p r ⌝ }
 {
-    io::write_all(STDOUT_FILENO, &text[..used])
-}
-
-// Where the next line goes: behind the others, or to the front once they are written.
-fn place(text: &[u8], used: usize) -> usize
-    requires { ⌜ (used ≤ length (now text)) × (64 ≤ length (now text)) ⌝ }
-    ensures { λ r. ⌜ (r ≡ lineAt (length (now (text .entry))) used) × (r + 64 ≤ length (now (text .entry))) ⌝ }
-{
-    if text.len() - used < 64 {
-        flush(text, used);
-        return 0;
+    let sent = send(text, p.used);
+    let done = sent.count();
+    let whole = done == p.used;
+    Progress {
+        at: p.at,
+        end: p.end,
+        used: 0,
+        sent: wrapping_add_u64(p.sent, done as u64),
+        number: p.number,
+        ended: p.ended,
+        on: p.on & whole,
+        failed: p.failed | !whole,
     }
-    used
 }
 
-// A line behind the others. Answers where it ends.
-pub fn put_line(text: &mut [u8], used: usize, number: u64, kind: u32, answer: Answer) -> usize
-    requires { ⌜ (used ≤ length (now text)) × (64 ≤ length (now text)) ⌝ }
-    ensures { λ r. ⌜ (r, now (text .exit)) ≡ lined (now (text .entry)) used number kind answer ⌝ }
-    ensures { λ r. ⌜ r ≤ length (now (text .entry)) ⌝ }
+// A line behind the others: the next number, a kind and an answer.
+pub fn put_line(text: &mut [u8], p: Progress, kind: u32, answer: Answer) -> Progress
+    requires { ⌜ p .used + 64 ≤ length (now text) ⌝ }
+    ensures { λ r. ⌜ (r, now (text .exit)) ≡ lined (now (text .entry)) p kind answer ⌝ }
+    ensures { λ r. ⌜ r .used ≤ length (now (text .entry)) ⌝ }
 {
-    let at = place(text, used);
-    at + records::line(&mut text[at..], number, kind, answer)
+    let at = p.used;
+    let number = wrapping_add_u64(p.number, 1);
+    let long = records::line(&mut text[at..], number, kind, answer);
+    Progress {
+        at: p.at,
+        end: p.end,
+        used: at + long,
+        sent: p.sent,
+        number,
+        ended: p.ended,
+        on: p.on,
+        failed: p.failed,
+    }
 }

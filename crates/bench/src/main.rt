@@ -1,5 +1,6 @@
 // The bench program: a switch of 200 cells, records on standard input, a line for each on standard output.
 mod calls;
+mod device;
 mod input;
 mod lines;
 mod progress;

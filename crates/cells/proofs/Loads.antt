@@ -10,13 +10,12 @@ use native.Mathlib.Omega.{arith}
 use lib.ListN.{length, take, drop, length-append, length-take, length-drop, take-append-drop}
 use lib.Seq.{sets, length-sets, take-all, take-append-le, take-append-add, take-take, drop-append-le, drop-append-seam}
 use Rattle.layout.specs.Counting.{times}
-use Rattle.slices.proofs.Runs.{part-before, part-after, part-run}
+use Rattle.slices.proofs.Runs.{part-before, part-after, part-run, length-part, drop-take, drop-part}
 use Rattle.cells.specs.Chains.{next, follow}
 use Rattle.cells.specs.Bytes.{storeCells, loadCells, headerIn, frontIn, frameIn}
 use Rattle.layout.proofs.Counting.{times-here}
 use Rattle.cells.proofs.Counts.{allBelow, count-ne, below-head, below-tail}
 use Rattle.cells.proofs.Steps.{follow-cons}
-use Rattle.cells.proofs.Parts.{length-part, drop-part, drop-take}
 
 pub length-store : (mem cs bytes : List ℕ) → length (storeCells mem cs bytes) ≡ length mem
 length-store mem [] bytes = refl
@@ -26,7 +25,7 @@ pub length-load : (n : ℕ) (mem cs : List ℕ) → 80 * n ≤ length mem → al
 length-load n mem [] f b = refl
 length-load n mem (c ∷ cs) f b =
     let below : c < n = below-head n c cs b in
-    simp length-append (omega (arith, length-part (80 * c) 80 mem (omega arith), length-load n mem cs f (below-tail n c cs b)))
+    simp length-append (omega (arith, length-part mem (80 * c) 80 (omega arith), length-load n mem cs f (below-tail n c cs b)))
 
 -- ---- a store elsewhere
 
@@ -78,7 +77,7 @@ load-stored n mem (c ∷ cs) bytes f b d h =
     let long : length first ≡ length mem = length-sets mem (80 * c) (take 80 bytes) in
     let last : List ℕ = storeCells first cs (drop 80 bytes) in
     let kept : take 80 (drop (80 * c) last) ≡ take 80 (drop (80 * c) first) = cell-store c first cs (drop 80 bytes) (omega (arith, d c, times-here c cs)) in
-    let x-long : length (take 80 (drop (80 * c) last)) ≡ 80 = length-part (80 * c) 80 last (omega (arith, length-store first cs (drop 80 bytes))) in
+    let x-long : length (take 80 (drop (80 * c) last)) ≡ 80 = length-part last (80 * c) 80 (omega (arith, length-store first cs (drop 80 bytes))) in
     joined (take 80 (drop (80 * c) last)) (loadCells last cs) bytes x-long
     (ap (take (length (take 80 bytes))) kept ∙ take-take (length (take 80 bytes)) 80 (drop (80 * c) first) (short bytes) ∙ part-run mem (80 * c) (take 80 bytes) (omega (arith, short bytes)))
     (load-stored n first cs (drop 80 bytes) (omega arith) (below-tail n c cs b) (λ x. omega (arith, d x)) (simp length-drop (omega arith)))
@@ -128,7 +127,7 @@ module _ (n : ℕ) (l mem : List ℕ) (k c : ℕ) (some : 0 < k) (fits : 80 * c 
 
   cell-long : length cell ≡ 80
   unfolding cell
-  cell-long = length-part (80 * c) 80 mem fits
+  cell-long = length-part mem (80 * c) 80 fits
 
   pub header-first : take 8 (loadCells mem (follow n l k c)) ≡ headerIn mem c
   unfolding cell

@@ -28,25 +28,6 @@ take-take-min (suc m) zero l = rw min-zero
 take-take-min (suc m) (suc n) [] = rw suc-min-suc
 take-take-min (suc m) (suc n) (x ∷ l) = rw (suc-min-suc, take-take-min m n l)
 
--- a part is the end of a beginning
-pub part-slice : (a k : ℕ) (l : List ℕ) → take k (drop a l) ≡ drop a (take (a + k) l)
-part-slice zero k l = rw zero-add
-part-slice (suc a) zero [] = rw add-zero
-part-slice (suc a) (suc k) [] = rw suc-add
-part-slice (suc a) k (x ∷ l) = rw (suc-add, part-slice a k l)
-
-pub drop-take : (a b : ℕ) (l : List ℕ) → a ≤ b → drop a (take b l) ≡ take (b - a) (drop a l)
-drop-take a b l h =
-    let sum : b ≡ a + (b - a) = omega arith in
-    ap (λ (m : ℕ). drop a (take m l)) sum ∙ sym (part-slice a (b - a) l)
-
--- the end of a part
-pub drop-part : (k a b : ℕ) (l : List ℕ) → k ≤ b → drop k (take b (drop a l)) ≡ take (b - k) (drop (a + k) l)
-drop-part k a b l h = drop-take k b (drop a l) h ∙ ap (take (b - k)) (drop-drop k a l)
-
-pub length-part : (a k : ℕ) (l : List ℕ) → a + k ≤ length l → length (take k (drop a l)) ≡ k
-length-part a k l h = simp (length-take, length-drop) (omega arith)
-
 -- no more than 80 bytes are left
 pub short-part : (bytes : List ℕ) (d : ℕ) → length bytes - d ≤ 80 → take (length bytes - d) (drop d bytes) ≡ take 80 (drop d bytes)
 short-part bytes d h = take-all (length bytes - d) (drop d bytes) (simp length-drop (omega arith)) ∙ sym (take-all 80 (drop d bytes) (simp length-drop (omega arith)))

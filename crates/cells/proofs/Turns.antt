@@ -6,11 +6,11 @@ use native.Mathlib.Omega.{arith}
 use lib.ListN.{length, take, drop, length-take, length-drop}
 use lib.Seq.{sets, take-all, take-nil, drop-drop, drop-append-le, take-append-add, drop-append-add}
 use Rattle.rules.specs.Cells.{cells}
-use Rattle.slices.proofs.Runs.{sets-append}
+use Rattle.slices.proofs.Runs.{sets-append, length-part, drop-take, drop-part}
 use Rattle.cells.specs.Chains.{nextIn, next, follow, walk}
 use Rattle.cells.specs.Bytes.{cellsFor, storeCells, storeFrom, loadCells, frameIn, loadFrom}
 use Rattle.cells.proofs.Steps.{follow-cons, walk-cons, behind-cons}
-use Rattle.cells.proofs.Parts.{take-min, drop-min, take-append, take-take-min, drop-take, drop-part, length-part, short-part, next-drop, part-is}
+use Rattle.cells.proofs.Parts.{take-min, drop-min, take-append, take-take-min, short-part, next-drop, part-is}
 
 -- u bytes from place at on, of which the first cell has v
 first-part : (u v a m : ℕ) → m ≡ min v u → min u v ≡ a + m - a
@@ -50,7 +50,7 @@ module _ (n : ℕ) (l : List ℕ) (k c : ℕ) (more : 0 < k) where
         let rest : List ℕ = loadCells mem (follow n l (k - 1) (next n l c)) in
         let cell : List ℕ = take 80 (drop (80 * c) mem) in
         let x : List ℕ = take (min 80 (end - d)) (drop (80 * c) mem) in
-        let cell-long : length cell ≡ 80 = length-part (80 * c) 80 mem fits in
+        let cell-long : length cell ≡ 80 = length-part mem (80 * c) 80 fits in
         let x-long : d + length x ≡ e = simp (length-take, length-drop) (omega arith) in
         let same : min (end - d) 80 ≡ min 80 (end - d) = omega arith in
         let left : end - d - length cell ≡ end - e = omega arith in
@@ -86,9 +86,9 @@ module _ (n : ℕ) (l : List ℕ) (k c : ℕ) (more : 0 < k) where
         let cell : List ℕ = take 80 (drop (80 * c) mem) in
         let y : List ℕ = take (72 - from) (drop a mem) in
         let x : List ℕ = take (a + m - a) (drop a mem) in
-        let cell-long : length cell ≡ 80 = length-part (80 * c) 80 mem fits in
-        let y-long : length y ≡ 72 - from = length-part a (72 - from) mem (omega arith) in
-        let x-long : length x ≡ m = length-part a (a + m - a) mem (omega arith) ∙ (omega arith) in
+        let cell-long : length cell ≡ 80 = length-part mem (80 * c) 80 fits in
+        let y-long : length y ≡ 72 - from = length-part mem a (72 - from) (omega arith) in
+        let x-long : length x ≡ m = length-part mem a (a + m - a) (omega arith) ∙ (omega arith) in
         let past : drop from (drop 8 (cell ++ rest)) ≡ y ++ rest =
         drop-drop from 8 (cell ++ rest) ∙ drop-append-le (8 + from) cell rest (omega arith) ∙ ap (λ (v : List ℕ). v ++ rest) (drop-part (8 + from) (80 * c) 80 mem (omega arith) ∙ part-is mem (80 * c + (8 + from)) a (80 - (8 + from)) (72 - from) (omega arith) (omega arith)) in
         let same : min (long - from) (72 - from) ≡ a + m - a = first-part (long - from) (72 - from) a m p in

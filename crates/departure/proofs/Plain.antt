@@ -6,8 +6,9 @@ use mathlib.Core.List.{List, [], _∷_, _++_}
 use native.Mathlib.Omega.{arith}
 use lib.Dec.{eqb}
 use lib.ListN.{length, take, drop, replicate}
-use lib.Seq.{sets, getD-drop}
+use lib.Seq.{sets}
 use borrow.Author.Tests.{ne-eqb}
+use Rattle.rules.proofs.ByteLists.{append-bytes, take-bytes, drop-bytes}
 use Rattle.rules.specs.Tags.{Tag, Bytes, tagsOf}
 use Rattle.rules.specs.Operations.{Kind, none, pop, push, swap, popAll, Operation, onStack, operate, leavingTags, retagged}
 use Rattle.rules.specs.Arguments.{OperationNumbers, kindOf, operationOf}
@@ -83,20 +84,6 @@ module _ (h : StoredHeader) where
       rw e (stays (o .kind) _ _ second ∙ stays (storedOperation h .kind) _ tags first))
 
 -- ---- the bytes of a frame are bytes
-
-append-bytes : (xs ys : List ℕ) → Bytes xs → Bytes ys → Bytes (xs ++ ys)
-append-bytes [] ys h g i = g i
-append-bytes (x ∷ xs) ys h g zero = h zero
-append-bytes (x ∷ xs) ys h g (suc i) = append-bytes xs ys (λ j. h (suc j)) g i
-
-take-bytes : (k : ℕ) (xs : List ℕ) → Bytes xs → Bytes (take k xs)
-take-bytes zero xs h i = omega arith
-take-bytes (suc k) [] h i = h i
-take-bytes (suc k) (x ∷ xs) h zero = h zero
-take-bytes (suc k) (x ∷ xs) h (suc i) = take-bytes k xs (λ j. h (suc j)) i
-
-drop-bytes : (k : ℕ) (xs : List ℕ) → Bytes xs → Bytes (drop k xs)
-drop-bytes k xs h i = rw (getD-drop k xs i 0) (h (k + i))
 
 load-bytes : (mem chain : List ℕ) → Bytes mem → Bytes (loadCells mem chain)
 load-bytes mem [] h i = omega arith

@@ -40,6 +40,19 @@ module _ (input : List ℕ) (ended : Bool) (P : Next → Type 0)
               ]
         ]
 
+-- ---- behind the end
+
+-- where the input has ended it is known what comes next
+pub end-known : (input : List ℕ) → nextOf input true ≡ More → ⊥
+unfolding ifEnded
+end-known input =
+    cases input true (λ x. x ≡ More → ⊥)
+    (λ h e. let z : _≡_ {A = ℕ} 0 1 = cc in omega arith)
+    (λ h e. let z : _≡_ {A = ℕ} 0 1 = cc in omega arith)
+    (λ h g e. let z : _≡_ {A = ℕ} 0 1 = cc in omega arith)
+    (λ h g k e. let z : _≡_ {A = ℕ} 0 1 = cc in omega arith)
+    (λ h g k e. let z : _≡_ {A = ℕ} 0 1 = cc in omega arith)
+
 -- ---- a whole record is there
 
 finished-is-not-whole : (ended : Bool) (n : ℕ) → ifEnded ended Finished ≡ Whole n → ⊥

@@ -27,7 +27,7 @@ pub record Refuses {M : Type 0} (lines : Lines) (memory : M) (promised : Answer 
   pub done-exactly : (promised .0 .refusal ≡ 0) ↔ Each Fails lines
   pub of-a-function : OfAFunction promised
 
--- a call that hands back a part instead of an answer: "a refusal hands back an empty part and writes nothing"
-pub record HandsBack (lines : Lines) (memory : List ℕ) (promised : List ℕ × List ℕ) : Type 0 where
-  pub empty-if-refused : (r : Refusal) → FirstOf lines r → promised ≡ (memory, [])
+-- a call that tells refusal and queue and hands back a part: "a refusal hands back an empty part and writes nothing"
+pub record HandsBack (lines : Lines) (memory : List ℕ) (promised : ℕ × ℕ × List ℕ × List ℕ) : Type 0 where
+  pub empty-if-refused : (r : Refusal) → FirstOf lines r → promised ≡ (refusalNumber r, 0, memory, [])
   pub of-a-function : OfAFunction promised

@@ -72,6 +72,6 @@ takeBy cells links port out next =
 unfoldable pub takeCall : List ℕ → List ℕ → ℕ → List ℕ → Answer × Memory
 takeCall cells links port out = takeBy cells links port out (served (cellCount links) port links)
 
--- "hands back exactly the written part of the lent buffer": link memory, and that part
-abbrev pub handedBack : Answer × Memory → Memory
-handedBack (answer, (links, out)) = (links, take (answer .x) out)
+-- "hands back exactly the written part of the lent buffer": refusal, queue, link memory, and that part
+abbrev pub handedBack : Answer × Memory → ℕ × ℕ × List ℕ × List ℕ
+handedBack (answer, (links, out)) = (answer .refusal, answer .y, links, take (answer .x) out)

@@ -47,13 +47,26 @@ pub fn take_into(cells: &[u8], links: &mut [u32], port: u32, out: &mut [u8]) -> 
     }
 }
 
-// "Hands back exactly the written part of the lent buffer": an empty one at an empty port and at a refusal.
-pub fn take<'a>(cells: &[u8], links: &mut [u32], port: u32, out: &'a mut [u8]) -> &'a mut [u8]
-    ensures { λ r. ⌜ (now (links .exit), now r)
+// "Hands back exactly the written part of the lent buffer": an empty one at an empty port and at a refusal. The refusal, 0
+// where there is none, and the queue are told beside it.
+pub fn take<'a>(
+    cells: &[u8],
+    links: &mut [u32],
+    port: u32,
+    out: &'a mut [u8],
+    refusal: &mut u32,
+    queue: &mut u32,
+) -> &'a mut [u8]
+    ensures { λ r. ⌜ (now (refusal .exit), now (queue .exit), now (links .exit), now r)
         ≡ handedBack (takeCall (now (cells .entry)) (now (links .entry)) port (now (out .entry))) ⌝ }
     ensures { λ r. ⌜ r .ptr ≡ out .entry .ptr ⌝ }
+    ensures { λ r. ⌜ (length (now r)
+        ≡ takeCall (now (cells .entry)) (now (links .entry)) port (now (out .entry)) .0 .x)
+        × (length (now r) ≤ length (now (out .entry))) ⌝ }
 {
     let answer = take_into(cells, links, port, out);
+    *refusal = answer.refusal;
+    *queue = answer.y;
     let long = answer.x as usize;
     &mut out[..long]
 }

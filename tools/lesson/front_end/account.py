@@ -1,126 +1,154 @@
-"""The account of a lesson: what its own settings and frames tell about VIDs, queues and tags.
+"""The account of a lesson: a switch that plays the lesson's calls by the rules, and so knows what to expect of the bench
+program and why.
 
-The bench program shows none of them but the queue of a take. The account follows the settings that were not refused
-and the frames that were queued, and answers None wherever it cannot know: behind a record that the language has no
-words for, and for a frame that left with another length than the one worked out.
+It goes by the rules alone and not by what the bench program answered. It knows nothing any more behind a record that was
+done and for which the language has no words.
 """
 
-from dataclasses import dataclass, replace
+from collections import Counter
+from dataclasses import dataclass
 
 from . import calls
-from .answers import Refused
-from .frames import BPDU_DESTINATION, Header
-from .operations import Operation
-from .words import ASSIGNMENTS
+from .answers import Done, Refused
+from .arrivals import PORTS, QUEUED, judge, ports_of
+from .frames import tags_of
+from .refusals import refusal_of
+from .table import AddressTable
+from .words import COUNTERS, REASONS
 
-MANAGEMENT_PORT = 4
-BPDU_QUEUE = 3
 ALL_PORTS = 31
+
+# The bench program's switch.
+CELLS = 200
 
 
 @dataclass(frozen=True)
-class Arrival:
-    """A frame as the settings of its arrival see it. `vid` is None for a BPDU to port 4, which has no tag operation."""
+class Worked:
+    """The answer that the rules give, and what explains it: an Arrival, a Departure, an Ageing, or None."""
 
-    line: int
-    frame: object
-    vid: object
-    queue: int
-    default: Header
-    operation: Operation
-    ports: int = 0
+    answer: object
+    why: object = None
 
 
 @dataclass(frozen=True)
 class Departure:
-    arrival: Arrival
+    arrival: object
     tags: tuple
+
+    def bytes(self):
+        return self.arrival.frame.bytes_with(self.tags)
+
+    def shown_tags(self):
+        """The tags that a reader of the bytes meets: a third tag that came is payload, and stays."""
+        return tags_of(self.bytes())
+
+
+@dataclass(frozen=True)
+class Ageing:
+    gone: list
 
 
 class Account:
     def __init__(self):
         """As on a fresh switch."""
-        self.is_sure = True
-        self.ports = {port: calls.SetPort(port) for port in range(5)}
+        self.lost_at = None
+        self.ports = {port: calls.SetPort(port) for port in PORTS}
         self.vlans = {1: calls.SetVlan(1, ALL_PORTS)}
         self.map = {pcp: pcp // 2 for pcp in range(8)}
+        self.queues_off = set()
         self.handles_bpdus = True
+        self.table = AddressTable()
         self.waiting = []
+        self.counts = Counter()
 
-    def follow(self, line, call, answer):
-        """Takes note of a call and its answer; what it knows of a frame that arrived or left, else None."""
-        if isinstance(answer, Refused):
-            return None
+    def play(self, line, call, answer):
+        """What the rules give for the call; None where the account cannot know. The bench program's answer matters for a
+        record without words alone: if it was done, the account is lost."""
         if isinstance(call, calls.AnyRecord):
-            self.is_sure = False
-        known = None
-        try:
-            known = self.noted(line, call, answer)
-        except LookupError:
-            # The bench program did what it should have refused: nothing is sure from here on.
-            self.is_sure = False
-        return known if self.is_sure else None
+            if not isinstance(answer, Refused) and self.lost_at is None:
+                self.lost_at = line
+            return None
+        if self.lost_at is not None:
+            return None
+        refusal = refusal_of(self, call)
+        return Worked(Refused(refusal)) if refusal else self.done(line, call)
 
-    def noted(self, line, call, answer):
+    def done(self, line, call):
         match call:
             case calls.FrameIn():
-                return self.arrived(self.arrival(line, call), answer.y)
-            case calls.Take() if answer.x > 0:
-                return self.left(call.port, answer.x, answer.y)
+                return self.arrived(judge(self, line, call))
+            case calls.Take():
+                return self.taken(call.port)
             case calls.Drain():
-                self.waiting = [self.without(arrival, call.port) for arrival in self.waiting]
+                return Worked(Done(self.drained(call.port)))
+            case calls.Age():
+                gone = self.table.age()
+                return Worked(Done(len(gone)), Ageing(gone))
+            case calls.Counter():
+                return Worked(Done(self.counts[call.port, COUNTERS[call.number]]))
+        self.set(call)
+        return Worked(Done())
+
+    def set(self, call):
+        match call:
             case calls.SetPort():
                 self.ports[call.port] = call
             case calls.SetVlan():
                 self.vlans[call.vid] = call
+            case calls.ClearVlan():
+                del self.vlans[call.vid]
+            case calls.SetStatic():
+                self.table.set_static(call.gid, call.address, call.port)
+            case calls.Remove():
+                self.table.remove(call.gid, call.address)
             case calls.Map():
                 self.map[call.pcp] = call.queue
+            case calls.QueueSwitch():
+                (self.queues_off.discard if call.on else self.queues_off.add)((call.port, call.queue))
             case calls.BpduHandling():
                 self.handles_bpdus = call.on == 1
-        return None
 
-    def arrival(self, line, call):
-        # "Membership, states, VLAN operation and the port's default header are taken when the frame arrives."
-        frame, port = call.frame, self.ports[call.port]
-        is_bpdu = frame.destination == BPDU_DESTINATION and call.port != MANAGEMENT_PORT and self.handles_bpdus
-        if is_bpdu:
-            return Arrival(line, frame, None, BPDU_QUEUE, port.default, Operation())
-        tags = frame.decoded_tags()
-        vid = assigned_vid(port, tags)
-        queue = self.map[tags[0].header.pcp if tags else port.default.pcp]
-        # A frame whose VLAN was never set, or was cleared, is dropped: its operation is not asked for.
-        operation = self.vlans[vid].operation if vid in self.vlans else Operation()
-        return Arrival(line, frame, vid, queue, port.default, operation)
+    def arrived(self, arrival):
+        outcome = "accepted" if arrival.outcome == QUEUED else REASONS[arrival.outcome]
+        self.counts.update([(arrival.port, "offered"), (arrival.port, outcome)])
+        if arrival.learning and arrival.learning.now is None:
+            self.counts[arrival.port, "not learned"] += 1
+        self.counts.update((port, "state") for port in arrival.fell_by_state)
+        self.counts.update((port, "queue off") for port in arrival.fell_by_queue)
+        self.counts.update((port, "queued") for port in ports_of(arrival.ports))
+        if arrival.outcome == QUEUED:
+            self.waiting.append(arrival)
+        return Worked(Done(arrival.outcome, arrival.ports), arrival)
 
-    def arrived(self, arrival, ports):
-        if ports:
-            self.waiting.append(replace(arrival, ports=ports))
-        return arrival
+    def taken(self, port):
+        """ "The oldest frame of its highest-numbered waiting queue." """
+        here = [arrival for arrival in self.waiting if arrival.waits_at >> port & 1]
+        if not here:
+            return Worked(Done())
+        arrival = max(here, key=lambda waiting: waiting.queue)
+        self.leave(arrival, port, "sent")
+        departure = Departure(arrival, self.leaving_tags(arrival, port))
+        return Worked(Done(len(departure.bytes()), arrival.queue), departure)
 
-    def left(self, port, length, queue):
-        """The oldest frame of the queue that the bench program names, if the length is the one worked out."""
-        waits = [place for place, frame in enumerate(self.waiting) if frame.queue == queue and frame.ports >> port & 1]
-        if not waits:
-            return None
-        arrival = self.waiting[waits[0]]
-        self.waiting[waits[0]] = self.without(arrival, port)
-        tags = self.leaving_tags(arrival, self.ports[port].operation)
-        return Departure(arrival, tags) if arrival.frame.length_with(tags) == length else None
+    def drained(self, port):
+        here = [arrival for arrival in self.waiting if arrival.waits_at >> port & 1]
+        for arrival in here:
+            self.leave(arrival, port, "drained")
+        return len(here)
 
-    def leaving_tags(self, arrival, port_operation):
+    def leave(self, arrival, port, counter):
+        """ "Its cells are free when its last copy is sent or drained." """
+        self.counts[port, counter] += 1
+        arrival.waits_at &= ~(1 << port)
+        self.waiting = [waiting for waiting in self.waiting if waiting.waits_at]
+
+    def free_cells(self):
+        return CELLS - sum(arrival.cells() for arrival in self.waiting)
+
+    def leaving_tags(self, arrival, port):
         # "VLAN operation first, departing port's second."
         original = arrival.frame.decoded_tags()
-        if arrival.vid is None:
+        if arrival.is_bpdu:
             return original
-        stack = arrival.operation.carried_out(original, original, arrival.default)
-        return port_operation.carried_out(stack, original, arrival.default)
-
-    @staticmethod
-    def without(arrival, port):
-        return replace(arrival, ports=arrival.ports & ~(1 << port))
-
-
-def assigned_vid(port, tags):
-    source = {"default": (), "outermost": tags[:1], "second": tags[1:2]}[ASSIGNMENTS[port.assignment]]
-    # "A missing tag or VID 0 gives the default VID."
-    return source[0].header.vid or port.default.vid if source else port.default.vid
+        stack = arrival.operation().carried_out(original, original, arrival.default)
+        return self.ports[port].operation.carried_out(stack, original, arrival.default)

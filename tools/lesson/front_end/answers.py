@@ -1,15 +1,23 @@
 """What a call answers: a line of the bench program, without its number and kind."""
 
 import re
-from dataclasses import dataclass
+from dataclasses import dataclass, field
 
-LINE = re.compile(r"(?P<number>\d+) (?P<kind>\d+) (?:ok (?P<x>\d+) (?P<y>\d+)|refused (?P<refusal>\d+))")
+NUMBER = "[0-9]{1,10}"
+LINE = re.compile(
+    rf"(?P<number>{NUMBER}) (?P<kind>{NUMBER}) "
+    rf"(?:ok (?P<x>{NUMBER}) (?P<y>{NUMBER})(?: (?P<written>(?:[0-9a-fA-F]{{2}})+))?|refused (?P<refusal>{NUMBER}))"
+)
+TAKE = 2
 
 
 @dataclass(frozen=True)
 class Done:
+    """`written` has the bytes of a take, if the bench program shows them; the answer is the same without."""
+
     x: int = 0
     y: int = 0
+    written: object = field(default=None, compare=False)
 
     def __str__(self):
         return f"ok {self.x} {self.y}"
@@ -28,6 +36,10 @@ def read_line(line):
     found = LINE.fullmatch(line)
     if not found:
         return None
-    refused = found["refusal"] is not None
-    answer = Refused(int(found["refusal"])) if refused else Done(int(found["x"]), int(found["y"]))
-    return int(found["number"]), int(found["kind"]), answer
+    number, kind = int(found["number"]), int(found["kind"])
+    if found["refusal"] is not None:
+        return number, kind, Refused(int(found["refusal"]))
+    written = bytes.fromhex(found["written"]) if found["written"] else None
+    if written is not None and (kind, len(written)) != (TAKE, int(found["x"])):
+        return None
+    return number, kind, Done(int(found["x"]), int(found["y"]), written)

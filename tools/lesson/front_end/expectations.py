@@ -1,20 +1,23 @@
-"""Expectations: the words behind 'expect', read as the answer that the call before them should give."""
+"""Expectations: the words behind 'expect', read as the answer that the call before them should give, and as the tags
+that a frame should leave with."""
 
 from . import calls
 from .answers import Done, Refused
+from .values import read_tag
 from .words import REASONS, REFUSALS, number_of
 
 LARGEST_COUNTER = 2**32 - 1
 
 
 def read_expectation(phrase, call):
-    """The expected answer of the call."""
+    """The expected answer of the call, and the expected tags, None if nothing is said of them."""
     if phrase.has("refused"):
         phrase.needs(":")
-        return Refused(read_words(phrase, "a refusal", REFUSALS))
+        return Refused(read_words(phrase, "a refusal", REFUSALS)), None
     answer = EXPECTED.get(type(call), done)(phrase)
+    tags = leaving_tags(phrase) if isinstance(call, calls.Take) and answer.x and phrase.has(",") else None
     phrase.needs_end()
-    return answer
+    return answer, tags
 
 
 def read_words(phrase, what, table):
@@ -45,6 +48,18 @@ def taken(phrase):
     length = phrase.number("a length", 60, 4091)
     phrase.needs("bytes", "from", "queue")
     return Done(length, phrase.number("a queue", 0, 3))
+
+
+def leaving_tags(phrase):
+    """'untagged', or 'tag 8100 vid 20 pcp 5, tag 8100 vid 10', outermost first"""
+    if phrase.has("untagged"):
+        return ()
+    tags = []
+    while not tags or phrase.has(","):
+        if not phrase.has("tag"):
+            phrase.fails("'tag'" if tags else "'tag' or 'untagged'")
+        tags.append(read_tag(phrase))
+    return tuple(tags)
 
 
 def removed(phrase):

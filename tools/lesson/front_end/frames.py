@@ -2,16 +2,24 @@
 
 from dataclasses import dataclass
 
+from .words import TAG_TYPES
+
 BROADCAST = bytes.fromhex("FFFFFFFFFFFF")
 BPDU_DESTINATION = bytes.fromhex("0180C2000000")
 
 # "A third tag is payload."
 DECODED_TAGS = 2
 
+# Tags stand directly behind destination and source.
+TAGS_AT = 12
+TAG_BYTES = 4
+TYPES = tuple(int(name, 16) for name in TAG_TYPES)
+
 # The type behind the tags: one that is set aside for experiments, so no tag type.
 PAYLOAD_TYPE = bytes.fromhex("88B5")
 
 SHORTEST = 60
+LONGEST = 4_083
 
 
 @dataclass(frozen=True)
@@ -55,6 +63,24 @@ class Frame:
     def payload_tags(self):
         return self.tags[DECODED_TAGS:]
 
-    def length_with(self, tags):
-        """The length with these tags for the decoded ones; "a result under 60 bytes is filled with zeros to 60"."""
-        return max(SHORTEST, self.length + 4 * (len(tags) - len(self.decoded_tags())))
+    def bytes_with(self, tags):
+        """The bytes with these tags for the decoded ones. "A result under 60 bytes is filled with zeros to 60." """
+        rest = self.bytes()[TAGS_AT + TAG_BYTES * len(self.decoded_tags()) :]
+        written = self.destination + self.source + b"".join(tag.bytes() for tag in tags) + rest
+        return written.ljust(SHORTEST, b"\0")
+
+
+def is_group(address):
+    """The group bit is bit 0 of an address's first byte."""
+    return address[0] & 1 == 1
+
+
+def tags_of(written):
+    """All tags in a row behind the source."""
+    tags, at = [], TAGS_AT
+    while at + TAG_BYTES <= len(written) and int.from_bytes(written[at : at + 2], "big") in TYPES:
+        control = int.from_bytes(written[at + 2 : at + TAG_BYTES], "big")
+        header = Header(control & 0xFFF, control >> 13, control >> 12 & 1)
+        tags.append(Tag(int.from_bytes(written[at : at + 2], "big"), header))
+        at += TAG_BYTES
+    return tuple(tags)

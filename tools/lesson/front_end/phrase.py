@@ -2,9 +2,12 @@
 
 import re
 
+from .quoting import quoted
+
 # A word may have colons inside, as an address has; a colon or comma behind a word stands alone.
 WORD = re.compile(r"[^\s,:]+(?::[^\s,:]+)*|[,:]")
-NUMBER = re.compile(r"[0-9]+")
+# No number of the language has more digits.
+NUMBER = re.compile(r"[0-9]{1,10}")
 ADDRESS = re.compile(r"[0-9A-Fa-f]{2}(:[0-9A-Fa-f]{2}){5}")
 
 
@@ -24,7 +27,7 @@ class Phrase:
         return self.words[self.next].group().lower() if self.next < len(self.words) else ""
 
     def fails(self, expected):
-        found = f"'{self.words[self.next].group()}'" if self.word() else "the end of the line"
+        found = f"'{quoted(self.words[self.next].group())}'" if self.word() else "the end of the line"
         raise LessonError(f"{self.place}: expected {expected}, found {found}")
 
     def has(self, word):

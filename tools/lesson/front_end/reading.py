@@ -5,6 +5,7 @@ from dataclasses import dataclass, field
 from .expectations import read_expectation
 from .frames import BPDU_DESTINATION, BROADCAST
 from .phrase import LessonError, Phrase
+from .source import read_text
 from .statements import read_statement
 
 MOST_TIMES = 1_000
@@ -37,12 +38,13 @@ class Step:
 
 @dataclass
 class Expectation:
-    """A line that says what each call of a step should answer."""
+    """A line that says what each call of a step should answer; `tags` with what tags a frame should leave, or None."""
 
     line: int
     text: str
     step: Step
     answer: object
+    tags: object
 
 
 @dataclass
@@ -50,6 +52,7 @@ class Lesson:
     path: str
     title: str = ""
     items: list = field(default_factory=list)
+    addresses: dict = field(default_factory=lambda: {"broadcast": BROADCAST, "bpdu": BPDU_DESTINATION})
 
     def steps(self):
         return [item for item in self.items if isinstance(item, Step)]
@@ -60,22 +63,15 @@ class Lesson:
 
 
 def read_file(path):
-    try:
-        with open(path, encoding="utf-8") as file:
-            return read_lesson(path, file.read())
-    except OSError as error:
-        raise LessonError(f"{path}: {error.strerror}") from error
-    except UnicodeDecodeError as error:
-        raise LessonError(f"{path}: expected a text in UTF-8") from error
+    return read_lesson(path, read_text(path))
 
 
 def read_lesson(path, text):
     lesson = Lesson(path)
-    addresses = {"broadcast": BROADCAST, "bpdu": BPDU_DESTINATION}
     step = None
-    for number, line in enumerate(text.splitlines(), 1):
+    for number, line in enumerate(text.split("\n"), 1):
         line = line.strip()
-        phrase = Phrase(line, f"{path}:{number}", addresses)
+        phrase = Phrase(line, f"{path}:{number}", lesson.addresses)
         if not line or line.startswith("#"):
             continue
         if not lesson.title:
@@ -88,13 +84,14 @@ def read_lesson(path, text):
         elif phrase.has("expect"):
             if step is None:
                 raise LessonError(f"{phrase.place}: expected a statement before the first 'expect'")
-            lesson.items.append(Expectation(number, line, step, read_expectation(phrase, step.call)))
+            lesson.items.append(Expectation(number, line, step, *read_expectation(phrase, step.call)))
         else:
             times = read_times(phrase)
             step = Step(number, line, read_statement(phrase), times)
             lesson.items.append(step)
     if not lesson.title:
-        raise LessonError(f"{path}: expected 'lesson: TITLE', found the end of the file")
+        found = "the end of the file" if text else "an empty file"
+        raise LessonError(f"{path}: expected 'lesson: TITLE', found {found}")
     return lesson
 
 

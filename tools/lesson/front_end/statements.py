@@ -4,6 +4,7 @@ from . import calls
 from .frames import SHORTEST, Frame, Header
 from .operations import Operation
 from .phrase import NUMBER
+from .quoting import quoted
 from .values import (
     BYTE,
     TWO_BYTES,
@@ -23,8 +24,9 @@ from .values import (
 )
 from .words import COUNTERS, number_of
 
-# A record's length counts its kind and the port too.
-LONGEST_FRAME = TWO_BYTES - 3
+# A record's length counts its kind too, and of a frame-in the port.
+LONGEST_BODY = TWO_BYTES - 2
+LONGEST_FRAME = LONGEST_BODY - 1
 
 
 def read_statement(phrase):
@@ -175,9 +177,12 @@ def any_record(phrase):
     phrase.needs(":")
     text = phrase.rest()
     try:
-        return calls.AnyRecord(kind, bytes.fromhex(text))
+        body = bytes.fromhex(text)
     except ValueError:
-        phrase.fails(f"bytes such as 00 FF behind the colon, not '{text}'")
+        phrase.fails(f"bytes such as 00 FF behind the colon, not '{quoted(text)}'")
+    if len(body) > LONGEST_BODY:
+        phrase.fails(f"at most {LONGEST_BODY} bytes, not {len(body)}")
+    return calls.AnyRecord(kind, body)
 
 
 STATEMENTS = {

@@ -1,18 +1,8 @@
-"""A call and its answer in words, and what the account of the lesson adds to them."""
+"""A call and its answer in words."""
 
 from . import calls
-from .account import Departure
 from .answers import Refused
 from .words import ASSIGNMENTS, COUNTERS, REASONS, REFUSALS, STATES, counted, listed, named
-
-NOT_SHOWN = "not shown by the bench program"
-
-# Reasons that come before tags are read, and those that come before a VID is assigned.
-BEFORE_TAGS = (1, 2)
-BEFORE_VID = (3, 4, 5, 6)
-
-# The outcomes for which the queue matters: queued, and no port left after state and queue tests.
-BY_QUEUE = (0, 12)
 
 
 def answer_words(call, answer):
@@ -62,54 +52,10 @@ def setting_words(call):
     raise TypeError(f"no words for {call}")
 
 
-def known_words(call, answer, known):
-    """What the lesson's own settings and frames add; None if there is nothing to add."""
-    if isinstance(answer, Refused):
-        return None
-    if isinstance(call, calls.FrameIn) and answer.x not in BEFORE_TAGS:
-        return arrival_words(call.frame, answer.x, known)
-    if isinstance(call, calls.Take) and answer.x > 0:
-        return departure_words(known)
-    return None
-
-
-def arrival_words(frame, outcome, known):
-    came = came_words(frame)
-    if outcome in BEFORE_VID:
-        return f"worked out: {came}"
-    if known is None:
-        return f"worked out: {came}; VID and queue: {NOT_SHOWN}"
-    if known.vid is None:
-        return f"worked out: {came}; a BPDU to port 4, queue {known.queue}, no tag operation"
-    queue = f", queue {known.queue}" if outcome in BY_QUEUE else ""
-    return f"worked out: {came}; assigned VID {known.vid}{queue}"
-
-
-def departure_words(known):
-    if not isinstance(known, Departure):
-        return f"tags: {NOT_SHOWN}"
-    arrival = known.arrival
-    vlan = "a BPDU" if arrival.vid is None else f"VLAN {arrival.vid}"
-    leaves = "leaves unchanged" if is_unchanged(known) else f"leaves {tags_words(known.tags)}{payload_words(arrival.frame)}"
-    return f"worked out: frame of line {arrival.line}, {vlan}; {came_words(arrival.frame)}; {leaves}"
-
-
-def is_unchanged(departure):
-    return departure.tags == departure.arrival.frame.decoded_tags()
-
-
-def came_words(frame):
-    return f"came {tags_words(frame.decoded_tags())}{payload_words(frame)}"
-
-
 def tags_words(tags):
     if not tags:
         return "untagged"
     return f"with {'tag' if len(tags) == 1 else 'tags'} {listed(tags)}"
-
-
-def payload_words(frame):
-    return ", third tag as payload" if frame.payload_tags() else ""
 
 
 def ports_words(mask):

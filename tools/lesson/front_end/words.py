@@ -48,6 +48,9 @@ OPERATIONS = ("none", "pop", "push", "swap", "pop-all")
 SOURCES = ("outermost", "second")
 TAG_TYPES = ("8100", "88A8")
 
+# A row of more things is cut. No mask has so many ports.
+MOST_LISTED = 8
+
 
 def named(table, number):
     """The words of a number, or the number itself where the rules have none."""
@@ -61,9 +64,10 @@ def number_of(table, text):
     return next((number for number, words in table.items() if words.casefold() == sought), None)
 
 
-def listed(numbers):
-    """Numbers or words in a row: '1', '1 and 4', '1, 2 and 4'."""
-    *front, last = [str(number) for number in numbers]
+def listed(things, most=MOST_LISTED):
+    """Numbers or words in a row: '1', '1 and 4', '1, 2 and 4'; only the first if they are many: '1, 2 and 7 more'."""
+    shown = [str(thing) for thing in things]
+    *front, last = shown if len(shown) <= most else [*shown[:most], f"{len(shown) - most} more"]
     return f"{', '.join(front)} and {last}" if front else last
 
 

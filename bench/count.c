@@ -1,11 +1,13 @@
-/* A plugin for qemu's user-mode emulator (plugin interface version 1): when the program exits it prints to standard error, for each
- * instruction that ran, its address and how often it ran. bench/profile reads that. The few declarations that it needs of the interface
- * are written out here, since no package ships them as a header. */
+/* A plugin for qemu's user-mode emulator (plugin interface version 1), for bench/insns: when the program exits it prints to standard error
+ * how many instructions ran. With the argument 'addresses=on' it prints before that, for each instruction that ran, its address and how
+ * often it ran. The few declarations that it needs of the interface are written out here, since no package ships them as a header. */
 #include <inttypes.h>
+#include <stdbool.h>
 #include <stddef.h>
 #include <stdint.h>
 #include <stdio.h>
 #include <stdlib.h>
+#include <string.h>
 
 typedef uint64_t plugin_id;
 struct tb;
@@ -31,6 +33,7 @@ struct block {
 };
 
 static struct block *last;
+static bool addresses;
 
 static void translated(plugin_id id, struct tb *tb)
 {
@@ -51,17 +54,20 @@ static void ended(plugin_id id, void *unused)
 {
     (void)id;
     (void)unused;
-    for (const struct block *block = last; block != NULL; block = block->before)
-        for (size_t i = 0; i < block->count; i++)
-            if (block->executed != 0)
-                fprintf(stderr, "%" PRIx64 " %" PRIu64 "\n", block->addresses[i], block->executed);
+    uint64_t instructions = 0;
+    for (const struct block *block = last; block != NULL; block = block->before) {
+        instructions += block->executed * block->count;
+        for (size_t i = 0; addresses && block->executed != 0 && i < block->count; i++)
+            fprintf(stderr, "%" PRIx64 " %" PRIu64 "\n", block->addresses[i], block->executed);
+    }
+    fprintf(stderr, "instructions: %" PRIu64 "\n", instructions);
 }
 
 int qemu_plugin_install(plugin_id id, const struct info *info, int argc, char **argv)
 {
     (void)info;
-    (void)argc;
-    (void)argv;
+    for (int i = 0; i < argc; i++)
+        addresses = addresses || strcmp(argv[i], "addresses=on") == 0;
     qemu_plugin_register_vcpu_tb_trans_cb(id, translated);
     qemu_plugin_register_atexit_cb(id, ended, NULL);
     return 0;
