@@ -4,7 +4,7 @@ use libc::STDOUT_FILENO;
 ghost use mathlib.Core.Path.{_≡_};
 ghost use Prim.Native.Nat.{_+_, _-_, _≤_, _<_};
 ghost use lib.ListN.{length, take};
-ghost use Rattle.bench.specs.Transfers.{Moves, Fits};
+ghost use Rattle.bench.specs.Transfers.{outcomeOf, Fits};
 
 // What came of one read or one write.
 pub enum Transfer {
@@ -44,14 +44,14 @@ impl Sent {
     }
 }
 
-// A call that answered below 0 is tried again exactly after these two errors.
+// The errors after which a call is tried again: a signal came first, or nothing can be moved now.
 fn is_passing(error: i32) -> bool {
     error == libc::EINTR || error == libc::EAGAIN
 }
 
-// `got` is what the call answered, `n` how many bytes that is.
-fn outcome(got: isize, n: usize) -> Transfer
-    ensures { λ r. ⌜ Moves r n ⌝ }
+// `got` is what the call answered, `n` how many bytes that is, `passing` whether its error passes.
+fn outcome(got: isize, n: usize, passing: bool) -> Transfer
+    ensures { λ r. ⌜ r ≡ outcomeOf got n passing ⌝ }
 {
     if 0 < n {
         return Transfer::Bytes(n);
@@ -59,7 +59,7 @@ fn outcome(got: isize, n: usize) -> Transfer
     if 0 <= got {
         return Transfer::Nothing;
     }
-    if is_passing(os::errno()) {
+    if passing {
         return Transfer::Again;
     }
     Transfer::Failed
@@ -74,7 +74,7 @@ fn read_once(input: &mut [u8], from: usize) -> Transfer
     let part = &mut input[from..];
     let got = libc::read(STDIN_FILENO, part);
     let n = io::count(got, part);
-    outcome(got, n)
+    outcome(got, n, is_passing(os::errno()))
 }
 
 // Reads into the buffer from place `from` on: bytes, nothing at the end of the input, or a failure, which is told.
@@ -113,7 +113,7 @@ fn write_once(text: &[u8], from: usize, to: usize) -> Transfer
     let part = &text[from..to];
     let got = libc::write(STDOUT_FILENO, part);
     let n = io::count(got, part);
-    outcome(got, n)
+    outcome(got, n, is_passing(os::errno()))
 }
 
 // Writes of the text's places `from` to `to`, and answers how many bytes were written: none if writing failed, which is told.

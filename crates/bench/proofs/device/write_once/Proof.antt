@@ -20,11 +20,17 @@ write-requires c κs = search needs
 count-requires : tie.Need-count-requires
 count-requires c κs = search needs
 
+errno-requires : tie.Need-errno-requires
+errno-requires c κs = search needs
+
+is-passing-requires : tie.Need-is-passing-requires
+is-passing-requires c κs = search needs
+
 outcome-requires : tie.Need-outcome-requires
 outcome-requires c κs = search needs
 
 returns : tie.Need-returns
-returns c = moved-fits (c .outcome .result) (c .before .count .result) (c .before .before .before .before .before .args .to - c .before .before .before .before .before .args .from) (c .outcome .ensures) (search needs)
+returns c = moved-fits (c .outcome .result) _ (c .before .before .before .count .result) (c .before .before .before .before .before .before .before .args .to - c .before .before .before .before .before .before .before .args .from) (c .before .is-passing .result) (c .outcome .ensures) (search needs)
 
 pub write-once-spec : {M : Type 1} → statement M
 write-once-spec =
@@ -35,5 +41,7 @@ write-once-spec =
     part-part-end
     write-requires
     count-requires
+    errno-requires
+    is-passing-requires
     outcome-requires
     returns)
