@@ -1,4 +1,6 @@
 // The calls on address memory: age, static, remove. Each tests all that it uses before it writes.
+#![tactic(auto)]
+
 ghost use Rattle.std.specs.Prelude.{◌≡◌, ◌&&◌, not, ◌<◌, ◌≤◌, ◌^◌, leb, length};
 ghost use Rattle.rules.specs.Numbers.{most_gid, place_count};
 ghost use Rattle.rules.specs.Arguments.{is_address};

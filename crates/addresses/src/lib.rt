@@ -1,5 +1,7 @@
 // Address memory: 4,112 numbers, searched by key. What a change writes is found by a look-up before, so that each
 // change is one write.
+#![tactic(auto)]
+
 pub mod numbers; // the number of an entry
 
 ghost use Rattle.std.specs.Prelude.{◌≡◌, ◌<◌, ◌≤◌, ◌^◌, length, replicate};

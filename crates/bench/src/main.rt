@@ -1,4 +1,6 @@
 // The bench program: a switch of 200 cells, records on standard input, a line for each on standard output.
+#![tactic(auto)]
+
 mod calls;
 mod device;
 mod input;

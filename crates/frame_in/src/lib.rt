@@ -1,4 +1,6 @@
 // The call frame-in: a frame that arrives at a port.
+#![tactic(auto)]
+
 mod judge; // the rules in their order
 mod carry; // the writes
 

@@ -1,4 +1,6 @@
 // The fresh call: it writes every word of link memory, in order, and every place of address memory.
+#![tactic(auto)]
+
 mod words; // the words of the whole switch
 mod records; // the VLAN table and the ports' records
 mod cells; // the cells' records

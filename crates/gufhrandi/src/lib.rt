@@ -1,5 +1,7 @@
 // The C interface: each function is the call of its name, and promises what the call does. include/gufhrandi.h declares
 // them.
+#![tactic(auto)]
+
 ghost use Rattle.std.specs.Prelude.{◌≡◌};
 ghost use Rattle.layout.specs.Lengths.{link_words_for};
 ghost use Rattle.fresh_call.specs.Calls.{fresh_call};

@@ -1,5 +1,7 @@
 // The layout paper, "Link memory": where each field stands, as constants. A record's or a table's place i is its first
 // word and i of its strides.
+#![tactic(auto)]
+
 pub mod numbers; // the numbers of docs/RULES.md
 pub mod refusals; // the refusals, by number
 pub mod reasons; // the reasons, by number

@@ -1,6 +1,8 @@
 // The 20 queues of link memory as linked lists: a port's word of the queues that wait, each queue's oldest and youngest
 // frame, and in each cell's record the frame behind it at each port. Every function is total: a cell number n or more
 // in memory stands for 0.
+#![tactic(auto)]
+
 ghost use Rattle.std.specs.Prelude.{◌≡◌, ◌+◌, ◌≤◌, ◌<◌, length};
 ghost use Rattle.layout.specs.Places.{link_words};
 ghost use Rattle.queues.specs.Lists as spec;

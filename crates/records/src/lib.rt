@@ -1,4 +1,6 @@
 // The bench program's records and lines, on slices.
+#![tactic(auto)]
+
 mod framing;
 mod lines;
 mod reading;

@@ -1,4 +1,6 @@
 // Link memory's settings: words that hold several fields each, where they stand, and what a call asks.
+#![tactic(auto)]
+
 pub mod port_words; // a port's words
 pub mod vlan_words; // a VLAN entry's words
 pub mod table; // the VLANs in use

@@ -1,4 +1,6 @@
 // Frames leave: the calls take and drain.
+#![tactic(auto)]
+
 ghost use Rattle.std.specs.Prelude.{◌≡◌, ◌≤◌, length};
 ghost use Rattle.take_out.specs.Take.{take_call, handed_back};
 ghost use Rattle.take_out.specs.Drain.{drain_call};
