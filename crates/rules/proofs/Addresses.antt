@@ -9,7 +9,7 @@ use Rattle.rules.specs.Tables as Tables
 use Rattle.rules.specs.Addresses.{Entry, Table, address_keys, find, empty_for, with_mark, LookUp, group, unknown, found, answered, look_up, hit_marks, after_look_up, Learning, stays, no_place, takes, learning_by, learning_of, is_no_place, learned_entry, learn_by, learn, older, aged, goes, removed, static_entry, set_static, is_full, no_place_for, remove, Sound}
 use Rattle.rules.specs.AddressTheorems.{AddressTheorems, one, entries, learned_as}
 use Rattle.rules.proofs.Choice.{on, on_option}
-use Rattle.rules.proofs.Tables.{no_some, on_found, put_at, search_hit, search_miss, set_sound, remove_sound, set_finds, set_leaves_others, remove_finds_none, remove_leaves_others}
+use Rattle.rules.proofs.Tables.{no_some, on_found, put_at_lem, search_hit, search_miss, set_sound, remove_sound, set_finds, set_leaves_others, remove_finds_none, remove_leaves_others}
 use Rattle.rules.proofs.Tables as Laws
 
 pub on_look_up {ℓ} : {C : Type ℓ} (l : LookUp) → (l ≡ group → C) → (l ≡ unknown → C) → ((i : ℕ) (e : Entry) → l ≡ found i e → C) → C
@@ -201,7 +201,7 @@ module _ (t : Table) (k : ℕ) where
 
   remove_empties : (i : ℕ) (e : Entry) → find t k ≡ at i e → remove t k i ≡ none
   unfolding find remove remove_in remove_found
-  remove_empties i e h = rw h (put_at i none t)
+  remove_empties i e h = rw h (put_at_lem i none t)
 
   pub removal_sound : Sound t → Sound (remove t k)
   unfolding remove

@@ -59,6 +59,9 @@ departs_only forwarding e = is_forwarding
 departs_then : (x : PortState) → DisabledOrForwarding x → departs x ≡ true
 unfolding departs
 departs_then disabled is_disabled = refl
+departs_then blocking impossible = elim impossible [ ]
+departs_then listening impossible = elim impossible [ ]
+departs_then learning impossible = elim impossible [ ]
 departs_then forwarding is_forwarding = refl
 
 bars_only : (x : PortState) → departs x ≡ false → Barring x
@@ -71,9 +74,11 @@ bars_only forwarding e = absurd (true≢false e)
 
 bars_then : (x : PortState) → Barring x → departs x ≡ false
 unfolding departs
+bars_then disabled impossible = elim impossible [ ]
 bars_then blocking is_blocking_lem = refl
 bars_then listening is_listening_lem = refl
 bars_then learning is_learning_lem = refl
+bars_then forwarding impossible = elim impossible [ ]
 
 -- ---- the chain of tests
 

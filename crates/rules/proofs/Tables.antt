@@ -28,9 +28,9 @@ not_both h k = absurd (let z : ◌≡◌ {A = ℕ} 0 1 = cc in omega arith)
 
 -- ---- a changed place
 
-pub put_at : {E : Type 0} (i : ℕ) (o : Option E) (t : TableOf E) → put i o t i ≡ o
+pub put_at_lem : {E : Type 0} (i : ℕ) (o : Option E) (t : TableOf E) → put i o t i ≡ o
 unfolding put changed
-put_at i o t = rw (eqb_self i)
+put_at_lem i o t = rw (eqb_self i)
 
 pub put_off : {E : Type 0} (i j : ℕ) (o : Option E) (t : TableOf E) → eqb i j ≡ false → put i o t j ≡ t j
 unfolding put changed
@@ -161,7 +161,7 @@ module _ {E : Type 0} (kind : Keyed E) where
   put_unseen t i o k h ps =
       search_same (put i o t) t k
       (λ j. on (eqb i j)
-      (λ b. subst (λ (x : ℕ). matching (put i o t x) k ≡ matching (t x) k) (eqb-true i j b) (rw (put_at i o t) h))
+      (λ b. subst (λ (x : ℕ). matching (put i o t x) k ≡ matching (t x) k) (eqb-true i j b) (rw (put_at_lem i o t) h))
       (λ b. rw (put_off i j o t b)))
       ps
 
@@ -247,7 +247,7 @@ module _ {E : Type 0} (kind : Keyed E) where
   hit_again t k (p ∷ ps) i d e x h =
       on (eqb i p)
       (λ b. let q : i ≡ p = eqb-true i p b in
-      rw (← q) (rw (put_at i (some e) t) (rw (eq-eqb (kind.key_of e) k x))))
+      rw (← q) (rw (put_at_lem i (some e) t) (rw (eq-eqb (kind.key_of e) k x))))
       (λ b. rw (put_off i p (some e) t b) (on_option (t p)
       (λ a. rw a (hit_again t k ps i d e x (rw a at h)))
       (λ f a. on (eqb (kind.key_of f) k)
@@ -260,7 +260,7 @@ module _ {E : Type 0} (kind : Keyed E) where
   new_hit t k (p ∷ ps) i e x h a =
       on_option (t p)
       (λ n. let c : some p ≡ some i = rw n at a in let q : p ≡ i = cc in
-      rw q (rw (put_at i (some e) t) (rw (eq-eqb (kind.key_of e) k x))))
+      rw q (rw (put_at_lem i (some e) t) (rw (eq-eqb (kind.key_of e) k x))))
       (λ f s. let later_empty : first_empty t ps ≡ some i = rw s at a in
       let off : eqb i p ≡ false = ne_eqb i p (λ q. no_some (first_empty_lem t ps i later_empty).0 (subst (λ (y : ℕ). t y ≡ some f) (sym q) s)) in
       rw (put_off i p (some e) t off) (rw s (on (eqb (kind.key_of f) k)
