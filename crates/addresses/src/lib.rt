@@ -27,7 +27,7 @@ const BEFORE_SPARES: usize = PLACES - SPARES - WAYS;
 // No place: there are 4,112.
 const NO_PLACE: usize = PLACES;
 
-#[derive(Drop)]
+#[derive(Clone, Copy)]
 pub enum LookUp {
     // a match: its port and its place
     Found { port: u32, place: usize },

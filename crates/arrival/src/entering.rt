@@ -69,7 +69,7 @@ pub fn is_bpdu(map: u32, port: u32, frame: &[u8]) -> bool
 }
 
 // The arrival port as the later rules need it.
-#[derive(Drop)]
+#[derive(Clone, Copy)]
 pub struct Arrival {
     // as it is stored
     pub default: u16,
@@ -99,7 +99,7 @@ fn barred(word: u32, states: u32, port: u32, count: u32) -> u32
 }
 
 // The VID that is assigned to a frame, and the PCP that picks its queue.
-#[derive(Drop)]
+#[derive(Clone, Copy)]
 pub struct Told {
     pub vid: u32,
     pub pcp: u32,

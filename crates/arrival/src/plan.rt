@@ -7,7 +7,7 @@ use addresses::LookUp;
 use cells::stored::StoredHeader;
 
 // Whether the destination was looked up and the source is learned, and what the look-ups found.
-#[derive(Drop)]
+#[derive(Clone, Copy)]
 pub struct Lesson {
     pub learns: bool,
     pub destination: LookUp,
@@ -17,7 +17,7 @@ pub struct Lesson {
 
 // The ports' tests as masks of ports. The mask that a queued frame needs stands between the others, so that the
 // compiler keeps the three apart.
-#[derive(Drop)]
+#[derive(Clone, Copy)]
 pub struct Masks {
     pub candidates: u32,
     // of those that pass, the queue is on
@@ -27,7 +27,7 @@ pub struct Masks {
 }
 
 // Reason 0: the frame is queued at the ports left.
-#[derive(Drop)]
+#[derive(Clone, Copy)]
 pub struct Plan {
     pub damaged: bool,
     pub reason: u32,
@@ -39,7 +39,7 @@ pub struct Plan {
 }
 
 // What is queued where no reason holds: the ports' tests, the queue and what is stored with the frame.
-#[derive(Drop)]
+#[derive(Clone, Copy)]
 pub struct Offer {
     pub masks: Masks,
     pub queue: u32,

@@ -5,7 +5,7 @@ ghost use Rattle.bench.specs.Transfers.{outcome_of, Fits};
 use libc::{STDIN_FILENO, STDOUT_FILENO};
 
 // What came of one read or one write.
-#[derive(Drop)]
+#[derive(Clone, Copy)]
 pub enum Transfer {
     // So many bytes were moved, at least one.
     Bytes(usize),
@@ -17,7 +17,7 @@ pub enum Transfer {
 }
 
 // What came of reading. No other module can make one: whoever has it has read.
-#[derive(Drop)]
+#[derive(Clone, Copy)]
 pub struct Received {
     what: Transfer,
 }
@@ -32,7 +32,7 @@ impl Received {
 }
 
 // How many bytes were written. No other module can make one: whoever has it has written.
-#[derive(Drop)]
+#[derive(Clone, Copy)]
 pub struct Sent {
     bytes: usize,
 }

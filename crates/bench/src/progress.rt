@@ -1,5 +1,5 @@
 // How far the run has come.
-#[derive(Drop)]
+#[derive(Clone, Copy)]
 pub struct Progress {
     // The part of the input buffer that was read and not yet taken.
     pub at: usize,

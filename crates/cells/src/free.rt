@@ -9,7 +9,7 @@ use crate::chains::walk;
 use layout::{CELL_STRIDE, FIRST_FREE, FRAME, FRAME_END, FREE_COUNT, NEXT, SIZE_UNIT};
 
 // Is there room for a frame?
-#[derive(Drop)]
+#[derive(Clone, Copy)]
 pub enum Room {
     Enough,
     NoRoom,

@@ -11,7 +11,7 @@ use settings::operation::is_stored_word;
 
 // Length, the arrival port's default header as its word has it (from DEI on), and the word of the VLAN's operation.
 // The first word past the range of operations stands for a frame on which none acts.
-#[derive(Drop)]
+#[derive(Clone, Copy)]
 pub struct StoredHeader {
     pub length: u16,
     pub default: u16,

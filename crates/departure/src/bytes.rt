@@ -126,7 +126,7 @@ fn write_addresses(cells: &[u8], n: usize, c: u32, out: &mut [u8])
 }
 
 // What follows the frame's first `from` bytes is to go into the buffer, from place `at` on.
-#[derive(Drop)]
+#[derive(Clone, Copy)]
 pub struct Front {
     pub from: usize,
     pub at: usize,
@@ -156,7 +156,7 @@ fn write_front(cells: &[u8], links: &[u32], n: usize, port: usize, c: u32, out: 
 }
 
 // What was written: how many bytes. Besides, the last cell that was read, where the frame's cells end.
-#[derive(Drop)]
+#[derive(Clone, Copy)]
 pub struct Written {
     pub long: usize,
     pub last: usize,

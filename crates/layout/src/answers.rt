@@ -3,7 +3,7 @@ ghost use Rattle.std.specs.Prelude.{◌≡◌};
 
 // Refusal 0: x and y as in the bench program's lines. Else x and y are 0.
 #[repr(C)]
-#[derive(Drop)]
+#[derive(Clone, Copy)]
 pub struct Answer {
     pub refusal: u32,
     pub x: u32,

@@ -11,7 +11,7 @@ use layout::bits::{bit, with_bit};
 use layout::{BEHIND, CELL_STRIDE, OLDEST, PORT_STRIDE, QUEUE_STRIDE, WAITING, YOUNGEST, below};
 
 // The highest queue of a port that waits.
-#[derive(Drop)]
+#[derive(Clone, Copy)]
 pub enum Highest {
     Queue(u32),
     Nothing,

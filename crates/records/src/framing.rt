@@ -6,7 +6,7 @@ ghost use Rattle.records.specs.Framing.{if_ended, next_of};
 use crate::reading::little_endian;
 
 // What comes next in the input.
-#[derive(Drop)]
+#[derive(Clone, Copy)]
 pub enum Next {
     // More of the input has to be read before this is known.
     More,

@@ -14,7 +14,7 @@ use settings::vlan::VlanSettings;
 use tags::reading::address_in_six;
 
 // The frame of a frame-in is `frame_of`.
-#[derive(Drop)]
+#[derive(Clone, Copy)]
 pub enum Request {
     Asked(Call),
     // Refusal 11.

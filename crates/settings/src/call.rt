@@ -3,7 +3,7 @@ use crate::port::PortSettings;
 use crate::vlan::VlanSettings;
 
 // Of address memory.
-#[derive(Drop)]
+#[derive(Clone, Copy)]
 pub enum AddressCall {
     Age,
     Static { gid: u32, port: u32, address: u64 },
@@ -11,7 +11,7 @@ pub enum AddressCall {
 }
 
 // Of link memory alone.
-#[derive(Drop)]
+#[derive(Clone, Copy)]
 pub enum LinkCall {
     Counter(u32, u32),
     Port(u32, PortSettings),
@@ -24,7 +24,7 @@ pub enum LinkCall {
 }
 
 // The frame of a frame-in and the buffer of a take are handed over beside it.
-#[derive(Drop)]
+#[derive(Clone, Copy)]
 pub enum Call {
     FrameIn(u32),
     Take(u32),

@@ -9,7 +9,7 @@ ghost use Rattle.settings.specs.Operations.{is_stored_word, is_exempt};
 
 use layout::numbers::LAST_VID;
 
-#[derive(Drop)]
+#[derive(Clone, Copy)]
 pub struct OperationSettings {
     pub kind: u32,
     pub tag_type: u32,

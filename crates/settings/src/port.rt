@@ -9,7 +9,7 @@ use crate::operation::{OperationSettings, operation_in_range};
 use layout::bits::at_most;
 use layout::numbers::LAST_VID;
 
-#[derive(Drop)]
+#[derive(Clone, Copy)]
 pub struct PortSettings {
     pub state: u32,
     pub assignment: u32,

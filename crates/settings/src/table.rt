@@ -11,7 +11,7 @@ use crate::vlan::VlanSettings;
 use crate::vlan_words::write_vlan;
 use layout::{VLAN, VLAN_COUNT, VLAN_STRIDE};
 
-#[derive(Drop)]
+#[derive(Clone, Copy)]
 pub enum Found {
     At(usize),
     Nowhere,

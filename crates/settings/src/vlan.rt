@@ -10,7 +10,7 @@ use crate::operation::{OperationSettings, operation_in_range};
 use crate::port::VID;
 use layout::numbers::{EVERY_PORT, LAST_GID, LAST_VID};
 
-#[derive(Drop)]
+#[derive(Clone, Copy)]
 pub struct VlanSettings {
     pub vid: u32,
     pub members: u32,
@@ -38,7 +38,7 @@ pub fn pack_vlan(v: VlanSettings) -> u32
 }
 
 // An entry of the table as a frame's way reads it: its operation is stored with the frame as it stands.
-#[derive(Drop)]
+#[derive(Clone, Copy)]
 pub struct Entry {
     pub vid: u32,
     pub members: u32,

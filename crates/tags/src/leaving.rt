@@ -10,7 +10,7 @@ use crate::headers::header_at;
 use crate::stack::{Stack, few, pop, push};
 
 // Kind, type and sources by the numbers of the calls; the header is PCP · 8192 + DEI · 4096 + VID.
-#[derive(Drop)]
+#[derive(Clone, Copy)]
 pub struct Operation {
     pub kind: u32,
     pub tag_type: u32,

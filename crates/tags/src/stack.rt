@@ -3,7 +3,7 @@ ghost use Rattle.std.specs.Prelude.{◌≡◌, ◌≤◌, ◌∷◌, drop};
 ghost use Rattle.tags.specs.Numbers.{tag_is, few_tags, stack_is};
 
 // At most four tags, outermost first; those past the count say nothing.
-#[derive(Drop)]
+#[derive(Clone, Copy)]
 pub struct Stack {
     pub count: usize,
     pub first: u32,

@@ -6,7 +6,7 @@ ghost use Rattle.take_out.specs.Serving as spec;
 use queues::Highest;
 
 // The frame that leaves a port next: its queue, and its first cell.
-#[derive(Drop)]
+#[derive(Clone, Copy)]
 pub enum Next {
     Frame { queue: u32, cell: u32 },
     Nobody,
