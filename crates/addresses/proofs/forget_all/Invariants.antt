@@ -1,0 +1,15 @@
+-- `addresses::forget_all` meets its contract. The run that is left, stored into the memory as it is now, gives the result.
+use Prim.Native.Nat.{ℕ, ◌-◌, ◌≤◌}
+use native.Mathlib.Nat.{zero-add}
+use mathlib.Core.Path.{◌≡◌, refl, ◌∙◌}
+use native.Mathlib.Omega.{arith}
+use lib.ListN.{length, drop, replicate, length-set, length-replicate, drop_of_length-le}
+use lib.Seq.{sets}
+use Rattle.slices.proofs.Runs.{fill_turn, sets_whole}
+use Rattle.addresses.proofs.forget_all.Given as goal
+
+abbrev pub invariant-loop-place : goal.invariant-loop-place
+invariant-loop-place l = (l.place ≤ length l.initial.addresses) × (length l.addresses ≡ length l.initial.addresses) × (sets l.addresses l.place (drop l.place (replicate (length l.initial.addresses) 0)) ≡ replicate (length l.initial.addresses) 0)
+
+abbrev pub decreases-loop-place : goal.decreases-loop-place
+decreases-loop-place l = length l.initial.addresses - l.place

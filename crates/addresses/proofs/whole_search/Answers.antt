@@ -1,0 +1,36 @@
+-- `addresses::whole_search` meets its contract.
+use Prim.Native.Nat.{ℕ, ◌-◌, ◌≤◌}
+use mathlib.Core.Path.{◌≡◌, sym, ap, ◌∙◌}
+use native.Mathlib.Omega.{arith}
+use lib.ListN.{drop}
+use borrow.Author.Rules.{rules}
+use Rattle.rules.specs.Addresses.{bucket_of, places}
+use Rattle.addresses.specs.Search.{look_up}
+use Rattle.addresses.specs.Turns.{place_at, seek}
+use Rattle.addresses.proofs.Search.{look_up_seek, seek_end, seek_met, seek_next}
+use Rattle.addresses.proofs.whole_search.Goals as goal
+
+pub search-init : goal.search-init
+search-init c = (omega arith, look_up_seek _ _)
+
+pub returns-then-turn-eq-TURNS : goal.returns-then-turn-eq-TURNS
+returns-then-turn-eq-TURNS c =
+    c.not_found.ensures ∙ sym (c.search.invariant.1 ∙ seek_end _ _ _ _ c.if-turn-eq-TURNS.true)
+
+-- the place that a turn meets
+met : (c : tie.After-place-at invariant_search decreases_search)
+    → c.place_at.result ≡ place_at (bucket_of c.before.before.before.before.before.args.key) c.before.before.search.turn
+met c = c.place_at.ensures.0 ∙ ap (λ (b : ℕ). place_at b c.before.before.search.turn) c.before.before.before.bucket-of.ensures.0
+
+pub search-preserved : goal.search-preserved
+search-preserved c =
+    (
+      omega arith,
+      c.search.invariant.1
+          ∙ seek_next _ _ _ _ _ (omega arith) (met p) (sym c.is_entry.ensures ∙ c.if-is_entry.false) _ c.first_empty-empty.ensures,
+    )
+
+pub returns : goal.returns
+returns c =
+    c.answer_at.ensures
+    ∙ sym (c.search.invariant.1 ∙ seek_met _ _ _ _ _ (omega arith) (met p) (sym c.is_entry.ensures ∙ c.if-is_entry.true))

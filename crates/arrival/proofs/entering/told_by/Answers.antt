@@ -1,0 +1,15 @@
+-- `arrival::entering::told_by` meets its contract.
+use mathlib.Core.Path.{◌∙◌}
+use Rattle.settings.specs.States.{state_in}
+use Rattle.arrival.proofs.Arrivals.{untagged_told, tagged_told}
+use borrow.Author.Rules.{rules}
+use Rattle.arrival.proofs.entering.told_by.Goals as goal
+
+pub returns-then-tags-eq0 : goal.returns-then-tags-eq0
+returns-then-tags-eq0 c = λ states port o. let a = c.args in untagged_told a.word states 0 port o a.tags _ c.if-tags-eq0.true c.vid_in.ensures
+
+pub returns : goal.returns
+returns c = λ states port o.
+    let a = c.args in
+    tagged_told a.word states 0 port o a.tags _ _ _ (c.default_header-header.ensures (state_in states port) o)
+    (c.assigned_vid-vid.ensures ∙ rw c.assignment_in.ensures) c.queue_pcp-pcp.ensures

@@ -1,0 +1,7 @@
+-- `bench::run::goes_on` meets its contract.
+use Rattle.std.proofs.Common.{refl, ltb-true}
+use Rattle.rules.proofs.Choice.{and_left}
+use Rattle.bench.proofs.run.goes_on.Goals as goal
+
+pub returns : goal.returns
+returns c = (refl, λ e. ltb-true 0 c.args.turns (and_left _ c.args.p.on e))

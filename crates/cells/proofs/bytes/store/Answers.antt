@@ -1,0 +1,26 @@
+-- `cells::bytes::store` meets its contract: the first cell takes the header and as much of the frame as there is room for, and `store_rest` does the rest.
+use mathlib.Core.Path.{ap, ◌∙◌}
+use mathlib.Core.List.{List}
+use Prim.Native.Nat.{ℕ}
+use Rattle.cells.specs.Chains.{next_in}
+use Rattle.cells.specs.Stored.{stored_bytes}
+use Rattle.cells.proofs.Headers.{stored_length}
+use Rattle.cells.proofs.Turns.{store_short, store_long}
+use native.Mathlib.Omega.{arith}
+use borrow.Author.Rules.{rules}
+use Rattle.cells.proofs.bytes.store.Goals as goal
+
+pub returns-then-frame-le-FIRST_PART : goal.returns-then-frame-le-FIRST_PART
+returns-then-frame-le-FIRST_PART c =
+    let at-header = at_copy.before.before.before.before.before.before in
+    let s = at-header.before.before.before.before.before in
+    ap (λ (y : List ℕ). (next_in s.args.links.now s.args.first, y)) (c.copy.ensures ∙ (rw at-header.write-header.ensures))
+    ∙ store_short s.args.n s.args.links.now s.args.first s.args.cells.now (stored_bytes s.args.header) s.args.frame.now (stored_length s.args.header) (omega arith)
+
+pub returns : goal.returns
+returns c =
+    let at-header = at_copy.before.before.before.before.before.before in
+    let s = at-header.before.before.before.before.before in
+    c.store_rest.ensures
+    ∙ (rw (c.below.ensures.0, c.copy_first_part.ensures, at-header.write-header.ensures)
+    (store_long s.args.n s.args.links.now s.args.first s.args.cells.now (stored_bytes s.args.header) s.args.frame.now (stored_length s.args.header) (omega arith)))

@@ -1,0 +1,20 @@
+-- `departure::leaving::depart` meets its contract.
+use native.Mathlib.Omega.{arith}
+use Rattle.departure.proofs.Copies.{Leaves, leaves, left_here}
+use borrow.Author.Rules.{rules}
+use Rattle.departure.proofs.leaving.depart.Goals as goal
+
+facts : (s : tie.Start) → Leaves s.args.n s.args.port s.args.c s.args.links.now
+facts s = leaves s.args.n s.args.port s.args.c s.args.links.now s.requires.1
+
+pub last-last-requires : goal.last-last-requires
+last-last-requires c = (omega arith, (facts s).below, (facts s).frame)
+
+pub word-requires : goal.word-requires
+word-requires c = omega (arith, facts c.before.before.before.before)
+
+pub depart_from-requires : goal.depart_from-requires
+depart_from-requires c =
+    let word = c.word in
+    let left = c.turned-left in
+    ((omega arith, omega arith, omega arith), (c.requires.links_value, c.last-last.ensures.0, left_here c.args.port c.args.c c.args.links.now word.result left.result (omega arith) word.ensures left.ensures (facts s).waits))

@@ -1,0 +1,17 @@
+-- `gufhrandi::perform::on_addresses` meets its contract: each arm is the C function of its name.
+use borrow.Author.Rules.{rules}
+use Rattle.gufhrandi.specs.Runs.{run}
+use Rattle.gufhrandi.specs.Asked.{address_asked, address_run}
+use Rattle.gufhrandi.proofs.perform.on_addresses.Goals as goal
+
+pub returns-in-Age : goal.returns-in-Age
+unfolding run address_asked address_run
+returns-in-Age c = rw c.enum_told-1.given.1 c.gufhrandi_age.ensures
+
+pub returns-in-Static : goal.returns-in-Static
+unfolding run address_asked address_run
+returns-in-Static c = rw c.call-1.given.1 c.gufhrandi_set_static.ensures
+
+pub returns-in-Remove : goal.returns-in-Remove
+unfolding run address_asked address_run
+returns-in-Remove c = rw c.call-in-Remove-1.given.1 c.gufhrandi_remove.ensures

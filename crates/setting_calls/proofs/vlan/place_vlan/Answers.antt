@@ -1,0 +1,21 @@
+-- `setting_calls::vlan::place_vlan` meets its contract: the search says how it ends.
+use mathlib.Core.Path.{sym, ◌∙◌}
+use native.Mathlib.Omega.{arith}
+use Rattle.rules.specs.Refusals.{refusal_number}
+use Rattle.settings.proofs.FindLaws.{found_there}
+use Rattle.setting_calls.proofs.VlanEnds.{placed_there, placed_new, placed_damaged}
+use borrow.Author.Rules.{rules}
+use Rattle.setting_calls.proofs.vlan.place_vlan.Goals as goal
+
+pub returns-in-At : goal.returns-in-At
+returns-in-At c =
+    placed_there _ _ _ (sym c.find_vlan.ensures ∙ c.entry-1.given.1) c.write_vlan.ensures c.done.ensures
+
+pub returns-in-Nowhere : goal.returns-in-Nowhere
+returns-in-Nowhere c =
+    placed_new _ _ (sym c.find_vlan.ensures ∙ c.enum_told-1.given.1) c.add_entry.ensures
+
+pub returns-in-Damaged : goal.returns-in-Damaged
+unfolding refusal_number
+returns-in-Damaged c =
+    placed_damaged _ _ (sym c.find_vlan.ensures ∙ c.enum_told-in-Damaged-1.given.1) c.refused.ensures
