@@ -1,10 +1,8 @@
 -- `slices::copy_bytes` meets its contract.
-use mathlib.Core.Path.{◌≡◌, refl, ◌∙◌}
-use Prim.Native.Nat.{◌+◌, ◌-◌, ◌≤◌}
+use mathlib.Core.Path.{refl, ◌∙◌}
 use native.Mathlib.Nat.{add-zero}
 use native.Mathlib.Omega.{arith}
-use lib.ListN.{length, drop, length-set, drop_of_length-le}
-use lib.Seq.{sets}
+use lib.ListN.{length-set, drop_of_length-le}
 use Rattle.slices.proofs.Runs.{sets_turn}
 use Rattle.slices.proofs.copy_bytes.Goals as goal
 

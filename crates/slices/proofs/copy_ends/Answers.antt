@@ -3,7 +3,6 @@ use Prim.Native.Nat.{◌-◌}
 use native.Mathlib.Omega.{arith}
 use lib.ListN.{length}
 use Rattle.slices.proofs.Runs.{sets_last}
-use borrow.Author.Rules.{rules}
 use Rattle.slices.proofs.copy_ends.Goals as goal
 
 pub returns : goal.returns

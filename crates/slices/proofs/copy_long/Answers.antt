@@ -1,9 +1,8 @@
 -- `slices::copy_long` meets its contract.
-use mathlib.Core.Path.{◌≡◌, refl}
-use Prim.Native.Nat.{◌+◌, ◌-◌, ◌≤◌}
+use mathlib.Core.Path.{refl}
+use Prim.Native.Nat.{◌-◌}
 use native.Mathlib.Omega.{arith}
-use lib.ListN.{length, take}
-use lib.Seq.{sets}
+use lib.ListN.{length}
 use Rattle.slices.proofs.Runs.{sets_more, sets_last}
 use Rattle.slices.proofs.copy_long.Goals as goal
 
@@ -15,12 +14,12 @@ loop-done-preserved c =
     let a = c.args in (
       omega arith,
       c.loop-done.invariant.1,
-      omega (arith, c.copy_block.auto.0),
+      omega (arith, c.copy_block.auto.to),
       rw (c.copy_block.ensures, c.loop-done.invariant.3) (sets_more a.to.now a.at a.from.now c.loop-done.done 64 (omega arith)),
     )
 
 pub shape_of-to : goal.shape_of-to
-shape_of-to c = omega (arith, c.copy_block-2.auto.0)
+shape_of-to c = omega (arith, c.copy_block-2.auto.to)
 
 pub returns : goal.returns
 returns c =

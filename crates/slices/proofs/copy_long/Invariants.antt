@@ -1,10 +1,8 @@
 -- `slices::copy_long` meets its contract. The invariant: the first `done` bytes are written.
-use mathlib.Core.Path.{◌≡◌, refl}
+use mathlib.Core.Path.{◌≡◌}
 use Prim.Native.Nat.{◌+◌, ◌-◌, ◌≤◌}
-use native.Mathlib.Omega.{arith}
 use lib.ListN.{length, take}
 use lib.Seq.{sets}
-use Rattle.slices.proofs.Runs.{sets_more, sets_last}
 use Rattle.slices.proofs.copy_long.Given as goal
 
 abbrev pub invariant-loop-done : goal.invariant-loop-done

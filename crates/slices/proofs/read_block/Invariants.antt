@@ -1,12 +1,8 @@
 -- `slices::read_block` meets its contract: the run that is left, stored into the block as it is now, gives the result.
-use mathlib.Core.Path.{◌≡◌, refl, ◌∙◌}
-use mathlib.Core.List.{List}
-use Prim.Native.Nat.{ℕ, ◌-◌, ◌≤◌}
-use native.Mathlib.Nat.{zero-add}
-use native.Mathlib.Omega.{arith}
-use lib.ListN.{length, take, drop, length-set, drop_of_length-le}
+use mathlib.Core.Path.{◌≡◌}
+use Prim.Native.Nat.{◌-◌, ◌≤◌}
+use lib.ListN.{length, take, drop}
 use lib.Seq.{sets}
-use Rattle.slices.proofs.Runs.{length_part, part_turn, part_run}
 use Rattle.slices.proofs.read_block.Given as goal
 
 abbrev pub invariant-loop-i : goal.invariant-loop-i

@@ -24,7 +24,7 @@ loop-done-preserved c =
     )
 
 pub shape_of-out : goal.shape_of-out
-shape_of-out c = omega (arith, c.copy.auto.0)
+shape_of-out c = omega (arith, c.copy.auto.to)
 
 pub returns : goal.returns
 returns c =

@@ -23,7 +23,7 @@ loop-done-preserved c =
     )
 
 pub shape_of-cells : goal.shape_of-cells
-shape_of-cells c = omega (arith, c.copy.auto.0)
+shape_of-cells c = omega (arith, c.copy.auto.to)
 
 pub returns : goal.returns
 returns c =

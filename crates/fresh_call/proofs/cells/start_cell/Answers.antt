@@ -10,7 +10,7 @@ pub fill-requires : goal.fill-requires
 fill-requires c = simp length-set (omega arith)
 
 pub shape_of-links : goal.shape_of-links
-shape_of-links c = c.fill.auto.0 ∙ simp length-set
+shape_of-links c = c.fill.auto.links ∙ simp length-set
 
 pub returns : goal.returns
 returns c = rw c.fill.ensures (cell_run _ _ _)

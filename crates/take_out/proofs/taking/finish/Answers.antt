@@ -9,7 +9,7 @@ pub depart_from-requires : goal.depart_from-requires
 depart_from-requires c = ((omega arith, omega arith, omega arith), (c.requires.links_value.0, c.requires.links_value.2, c.requires.links_value.1))
 
 pub leave-requires : goal.leave-requires
-leave-requires c = omega (arith, c.requires.n_in_bounds, c.depart_from.auto.0, (leaves c.args.n c.args.port c.args.c c.args.links.now c.requires.links_value.0).below)
+leave-requires c = omega (arith, c.requires.n_in_bounds, c.depart_from.auto.links, (leaves c.args.n c.args.port c.args.c c.args.links.now c.requires.links_value.0).below)
 
 pub overflow_cast-written : goal.overflow_cast-written
 overflow_cast-written c = omega (arith, c.requires.links_value.3)
