@@ -14,30 +14,30 @@ use Rattle.take_out.proofs.drain.Goals as goal
 
 pub returns-then-not-links_fit : goal.returns-then-not-links_fit
 unfolding refusal_number
-returns-then-not-links_fit c = ap (λ (a : Answer). (a, c.args.links.now)) c.refused.ensures ∙ by_links c.args.links.now c.args.port (sym c.links_fit.ensures ∙ not-true _ c.if-not-links_fit.true)
+returns-then-not-links_fit c = ap (λ (a : Answer). (a, c.args.links.now)) c.refused.ensures ∙ by_links c.args.links.now c.args.port (sym c.links_fit.ensures ∙ c.if-not-links_fit.true)
 
 pub returns-then-port-gt-LAST_PORT : goal.returns-then-port-gt-LAST_PORT
 unfolding refusal_number
-returns-then-port-gt-LAST_PORT c = ap (λ (a : Answer). (a, c.args.links.now)) c.refused-then-port-gt-LAST_PORT.ensures ∙ by_port c.args.links.now c.args.port (sym c.links_fit.ensures ∙ not-false _ c.if-not-links_fit.false) c.if-port-gt-LAST_PORT.true
+returns-then-port-gt-LAST_PORT c = ap (λ (a : Answer). (a, c.args.links.now)) c.refused-then-port-gt-LAST_PORT.ensures ∙ by_port c.args.links.now c.args.port (sym c.links_fit.ensures ∙ c.if-not-links_fit.false) c.if-port-gt-LAST_PORT.true
 
 pub bounds-links-0 : goal.bounds-links-0
-bounds-links-0 c = omega (arith, (links_fit_lem c.args.links.now (sym c.links_fit.ensures ∙ not-false _ c.if-not-links_fit.false)).long)
+bounds-links-0 c = omega (arith, (links_fit_lem c.args.links.now (sym c.links_fit.ensures ∙ c.if-not-links_fit.false)).long)
 
 pub can_drain_all-requires : goal.can_drain_all-requires
 can_drain_all-requires c =
-    let f = links_fit_lem c.args.links.now (sym c.links_fit.ensures ∙ not-false _ c.if-not-links_fit.false) in
+    let f = links_fit_lem c.args.links.now (sym c.links_fit.ensures ∙ c.if-not-links_fit.false) in
     omega (arith, f, c.if-port-gt-LAST_PORT.false)
 
 pub returns-then-not-can_drain_all : goal.returns-then-not-can_drain_all
 unfolding refusal_number
-returns-then-not-can_drain_all c = ap (λ (a : Answer). (a, c.args.links.now)) c.refused-then-not-can_drain_all.ensures ∙ by_damage c.args.links.now c.args.port (sym c.links_fit.ensures ∙ not-false _ c.if-not-links_fit.false) c.if-port-gt-LAST_PORT.false (sym c.can_drain_all.ensures ∙ not-true _ c.if-not-can_drain_all.true)
+returns-then-not-can_drain_all c = ap (λ (a : Answer). (a, c.args.links.now)) c.refused-then-not-can_drain_all.ensures ∙ by_damage c.args.links.now c.args.port (sym c.links_fit.ensures ∙ c.if-not-links_fit.false) c.if-port-gt-LAST_PORT.false (sym c.can_drain_all.ensures ∙ c.if-not-can_drain_all.true)
 
 pub drain_all-copies-requires : goal.drain_all-copies-requires
 drain_all-copies-requires c =
-    let f = links_fit_lem c.args.links.now (sym c.links_fit.ensures ∙ not-false _ c.if-not-links_fit.false) in
+    let f = links_fit_lem c.args.links.now (sym c.links_fit.ensures ∙ c.if-not-links_fit.false) in
     omega (arith, f, c.if-port-gt-LAST_PORT.false)
 
 pub returns : goal.returns
 returns c =
     ap₂ (λ (a : Answer) (m : List ℕ). (a, m)) (c.done.ensures ∙ ap (λ (x : ℕ × List ℕ). done_with x.0 0) c.drain_all-copies.ensures) (ap (λ (x : ℕ × List ℕ). x.1) c.drain_all-copies.ensures)
-    ∙ by_draining c.args.links.now c.args.port (sym c.links_fit.ensures ∙ not-false _ c.if-not-links_fit.false) c.if-port-gt-LAST_PORT.false (sym c.can_drain_all.ensures ∙ not-false _ c.if-not-can_drain_all.false)
+    ∙ by_draining c.args.links.now c.args.port (sym c.links_fit.ensures ∙ c.if-not-links_fit.false) c.if-port-gt-LAST_PORT.false (sym c.can_drain_all.ensures ∙ c.if-not-can_drain_all.false)

@@ -17,12 +17,12 @@ overflow_cast-c c = omega (arith, c.loop-rest.invariant.1, c.requires)
 
 pub returns-then-not-can_leave : goal.returns-then-not-can_leave
 returns-then-not-can_leave c =
-    rest_bad c.args.n c.args.port c.args.queue c.args.links.now c.loop-rest.rest c.loop-rest.c c.loop-rest-test.true (sym c.can_leave.ensures ∙ not-true _ c.if-not-can_leave.true)
+    rest_bad c.args.n c.args.port c.args.queue c.args.links.now c.loop-rest.rest c.loop-rest.c c.loop-rest-test.true (sym c.can_leave.ensures ∙ c.if-not-can_leave.true)
     ∙ c.loop-rest.invariant.0
 
 pub returns-then-is_youngest : goal.returns-then-is_youngest
 returns-then-is_youngest c =
-    rest_last c.args.n c.args.port c.args.queue c.args.links.now c.loop-rest.rest c.loop-rest.c c.loop-rest-test.true (sym c.can_leave.ensures ∙ not-false _ c.if-not-can_leave.false) (sym c.is_youngest.ensures ∙ c.if-is_youngest.true)
+    rest_last c.args.n c.args.port c.args.queue c.args.links.now c.loop-rest.rest c.loop-rest.c c.loop-rest-test.true (sym c.can_leave.ensures ∙ c.if-not-can_leave.false) (sym c.is_youngest.ensures ∙ c.if-is_youngest.true)
     ∙ c.loop-rest.invariant.0
 
 pub behind-c-requires : goal.behind-c-requires
@@ -32,7 +32,7 @@ pub loop-rest-preserved : goal.loop-rest-preserved
 loop-rest-preserved c =
     (
       ap (λ (x : ℕ). all_can_leave c.args.n c.args.port c.args.links.now (rest_from c.args.n c.args.port c.args.queue c.args.links.now (c.loop-rest.rest - 1) x)) c.behind-c.ensures.0
-          ∙ rest_next c.args.n c.args.port c.args.queue c.args.links.now c.loop-rest.rest c.loop-rest.c c.loop-rest-test.true (sym c.can_leave.ensures ∙ not-false _ c.if-not-can_leave.false) (sym c.is_youngest.ensures ∙ c.if-is_youngest.false)
+          ∙ rest_next c.args.n c.args.port c.args.queue c.args.links.now c.loop-rest.rest c.loop-rest.c c.loop-rest-test.true (sym c.can_leave.ensures ∙ c.if-not-can_leave.false) (sym c.is_youngest.ensures ∙ c.if-is_youngest.false)
           ∙ c.loop-rest.invariant.0,
       c.behind-c.ensures.1,
     )

@@ -20,7 +20,7 @@ shape_of-links-then-not-waits c = c.loop-turn.invariant.1
 pub returns-then-not-waits : goal.returns-then-not-waits
 returns-then-not-waits c =
     (
-      done_stop c.args.n c.args.port c.args.queue c.args.links.now c.loop-turn.turn c.loop-turn.links c.loop-turn.invariant.0 (sym c.waits.ensures ∙ not-true _ c.if-not-waits.true),
+      done_stop c.args.n c.args.port c.args.queue c.args.links.now c.loop-turn.turn c.loop-turn.links c.loop-turn.invariant.0 (sym c.waits.ensures ∙ c.if-not-waits.true),
       omega (arith, c.requires, c.loop-turn.invariant.0.few),
     )
 
@@ -30,7 +30,7 @@ drain_one-requires c = omega (arith, c.requires, c.loop-turn.invariant.1)
 pub loop-turn-preserved : goal.loop-turn-preserved
 loop-turn-preserved c =
     (
-      done_next c.args.n c.args.port c.args.queue c.args.links.now c.loop-turn.turn c.loop-turn.links c.loop-turn.invariant.0 c.loop-turn-test.true (sym c.waits.ensures ∙ not-false _ c.if-not-waits.false) _ c.drain_one.ensures,
+      done_next c.args.n c.args.port c.args.queue c.args.links.now c.loop-turn.turn c.loop-turn.links c.loop-turn.invariant.0 c.loop-turn-test.true (sym c.waits.ensures ∙ c.if-not-waits.false) _ c.drain_one.ensures,
       c.drain_one.auto.0 ∙ c.loop-turn.invariant.1,
     )
 

@@ -18,12 +18,12 @@ loop-entry-init c = (omega arith, rw sub-zero (search_starts _ _ c.if-count-gt16
 
 pub returns-then-not-good : goal.returns-then-not-good
 returns-then-not-good c =
-    met_bad _ _ _ _ c.loop-entry-test.true (sym c.is_vid_word-good.ensures ∙ not-true _ c.if-not-good.true)
+    met_bad _ _ _ _ c.loop-entry-test.true (sym c.is_vid_word-good.ensures ∙ c.if-not-good.true)
     ∙ c.loop-entry.invariant.1
 
 pub returns-then-vid_in-vid : goal.returns-then-vid_in-vid
 returns-then-vid_in-vid c =
-    met_hit _ _ _ _ c.loop-entry-test.true (sym c.is_vid_word-good.ensures ∙ not-false _ c.if-not-good.false)
+    met_hit _ _ _ _ c.loop-entry-test.true (sym c.is_vid_word-good.ensures ∙ c.if-not-good.false)
     (sym c.vid_in.ensures ∙ c.if-vid_in-vid.true)
     ∙ c.loop-entry.invariant.1
 
@@ -31,7 +31,7 @@ pub loop-entry-preserved : goal.loop-entry-preserved
 loop-entry-preserved c =
     (
       omega arith,
-      met_next _ _ _ _ c.loop-entry-test.true (sym c.is_vid_word-good.ensures ∙ not-false _ c.if-not-good.false)
+      met_next _ _ _ _ c.loop-entry-test.true (sym c.is_vid_word-good.ensures ∙ c.if-not-good.false)
           (λ same. c.if-vid_in-vid.false (c.vid_in.ensures ∙ same))
           ∙ c.loop-entry.invariant.1,
     )

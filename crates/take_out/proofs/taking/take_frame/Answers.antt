@@ -16,13 +16,13 @@ unfolding refusal_number
 returns-then-not-can_send c =
     (
       ap (λ (a : Answer). (a, (c.args.links.now, c.args.out.now))) c.refused.ensures
-          ∙ frame_damaged c.args.cells.now c.args.n c.args.port c.args.c c.args.links.now c.args.out.now c.args.queue (by_header c.args.cells.now c.args.n c.args.port c.args.c c.args.links.now c.read_header-h.result c.can_send.result c.read_header-h.ensures c.can_send.ensures ∙ not-true _ c.if-not-can_send.true),
+          ∙ frame_damaged c.args.cells.now c.args.n c.args.port c.args.c c.args.links.now c.args.out.now c.args.queue (by_header c.args.cells.now c.args.n c.args.port c.args.c c.args.links.now c.read_header-h.result c.can_send.result c.read_header-h.ensures c.can_send.ensures ∙ c.if-not-can_send.true),
       rw c.refused.ensures (omega arith),
     )
 
 pub send-requires : goal.send-requires
 send-requires c =
-    let sends : can_send c.args.cells.now c.args.n c.args.port c.args.c c.args.links.now ≡ true = by_header c.args.cells.now c.args.n c.args.port c.args.c c.args.links.now c.read_header-h.result c.can_send.result c.read_header-h.ensures c.can_send.ensures ∙ not-false _ c.if-not-can_send.false in
+    let sends : can_send c.args.cells.now c.args.n c.args.port c.args.c c.args.links.now ≡ true = by_header c.args.cells.now c.args.n c.args.port c.args.c c.args.links.now c.read_header-h.result c.can_send.result c.read_header-h.ensures c.can_send.ensures ∙ c.if-not-can_send.false in
     let leave = leaves c.args.n c.args.port c.args.c c.args.links.now (can_send_lem c.args.cells.now c.args.n c.args.port c.args.c c.args.links.now sends).0 in
     ((omega arith, omega arith, omega arith, omega arith, omega arith, omega arith), (c.read_header-h.ensures, sends, c.operation_word-own.ensures, left_here c.args.port c.args.c c.args.links.now c.word-word.result c.turned-left.result (omega arith) c.word-word.ensures c.turned-left.ensures leave.waits))
 
@@ -30,6 +30,6 @@ pub returns : goal.returns
 returns c =
     (
       c.send.ensures.out_after
-          ∙ frame_taken c.args.cells.now c.args.n c.args.port c.args.c c.args.links.now c.args.out.now c.args.queue (by_header c.args.cells.now c.args.n c.args.port c.args.c c.args.links.now c.read_header-h.result c.can_send.result c.read_header-h.ensures c.can_send.ensures ∙ not-false _ c.if-not-can_send.false),
+          ∙ frame_taken c.args.cells.now c.args.n c.args.port c.args.c c.args.links.now c.args.out.now c.args.queue (by_header c.args.cells.now c.args.n c.args.port c.args.c c.args.links.now c.read_header-h.result c.can_send.result c.read_header-h.ensures c.can_send.ensures ∙ c.if-not-can_send.false),
       c.send.ensures.x_le_largest_result,
     )
