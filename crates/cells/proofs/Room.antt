@@ -19,8 +19,8 @@ module _ (n : ℕ) (l : List ℕ) (sound : Sound n l) where
   pub free_below : all_below n (free_cells n l) ≡ true
   free_below = counted_below n (free_cells n l) (λ c. omega (arith, sound.once c))
 
-  pub all_below : all_below n (all_waiting n l n) ≡ true
-  all_below = counted_below n (all_waiting n l n) (λ c. omega (arith, sound.once c))
+  pub waiting_below : all_below n (all_waiting n l n) ≡ true
+  waiting_below = counted_below n (all_waiting n l n) (λ c. omega (arith, sound.once c))
 
   -- the free cells and those of the waiting frames are all cells
   pub all_cells : free_count l + length (all_waiting n l n) ≡ n
@@ -31,7 +31,7 @@ module _ (n : ℕ) (l : List ℕ) (sound : Sound n l) where
         arith,
         length_follow n l (free_count l) (first_free l),
         length_total n (free_cells n l) free_below,
-        length_total n (all_waiting n l n) all_below,
+        length_total n (all_waiting n l n) waiting_below,
         total_sum free waiting n,
         total_same (λ c. free c + waiting c) (λ c. 1) n (λ c h. sound.once c ∙ ap one (lt-ltb c n h)),
         total_ones n,

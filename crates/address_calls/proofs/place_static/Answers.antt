@@ -18,7 +18,10 @@ returns-then-is_damaged c =
     (sym c.is_damaged.ensures ∙ c.if-is_damaged.true) c.refused-then-is_damaged.ensures
 
 pub set_static-requires : goal.set_static-requires
-set_static-requires c = (found_inside _ _ c.whole_search-found.ensures (omega arith), omega arith)
+set_static-requires c = record {
+      found_in_bounds = found_inside _ _ c.whole_search-found.ensures (omega arith);
+      key_bound = omega arith;
+    }
 
 pub returns : goal.returns
 returns c =

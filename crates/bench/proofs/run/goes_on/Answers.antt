@@ -4,4 +4,7 @@ use Rattle.rules.proofs.Choice.{and_left}
 use Rattle.bench.proofs.run.goes_on.Goals as goal
 
 pub returns : goal.returns
-returns c = (refl, λ e. ltb-true 0 c.args.turns (and_left _ c.args.p.on e))
+returns c = record {
+      value = refl;
+      le_turns = λ e. ltb-true 0 c.args.turns (and_left _ c.args.p.on e);
+    }

@@ -9,18 +9,16 @@ use Rattle.cells.proofs.bytes.load.Goals as goal
 
 pub returns-then-long-le-FIRST_PART : goal.returns-then-long-le-FIRST_PART
 returns-then-long-le-FIRST_PART c =
-    let fits : 80 * c.args.first + 80 ≤ length c.args.cells.now = omega arith in (
-      (walk_short c.args.n c.args.links.now c.args.first c.args.long (omega arith), omega arith),
-      c.copy.ensures ∙ load_short c.args.n c.args.links.now c.args.first c.args.long c.args.cells.now c.args.out.now fits c.args.from c.args.at (omega arith) (omega arith) (omega arith),
-    )
+    let fits : 80 * c.args.first + 80 ≤ length c.args.cells.now = omega arith in record {
+      value = (walk_short c.args.n c.args.links.now c.args.first c.args.long (omega arith), omega arith);
+      out_after = c.copy.ensures ∙ load_short c.args.n c.args.links.now c.args.first c.args.long c.args.cells.now c.args.out.now fits c.args.from c.args.at (omega arith) (omega arith) (omega arith);
+    }
 
 pub returns : goal.returns
 returns c =
-    let at-copy2 = at_next.before.before.before in
-    let s = at-copy2.before.before.before.before.before.before.before in
-    let fits : 80 * s.args.first + 80 ≤ length s.args.cells.now = omega arith in (
-      (c.load_rest.ensures.value.0 ∙ (rw c.next.ensures.0 (walk_long s.args.n s.args.links.now s.args.first s.args.long (omega arith) s.args.at s.args.from (omega arith))), c.load_rest.ensures.value.1),
-      c.load_rest.ensures.out_after
-          ∙ (rw (c.next.ensures.0, at-copy2.copy2.ensures)
-          (load_long s.args.n s.args.links.now s.args.first s.args.long s.args.cells.now s.args.out.now fits s.args.from s.args.at (omega arith) (omega arith) (omega arith))),
-    )
+    let fits : 80 * c.args.first + 80 ≤ length c.args.cells.now = omega arith in record {
+      value = (c.load_rest.ensures.value.0 ∙ (rw c.next.ensures.0 (walk_long c.args.n c.args.links.now c.args.first c.args.long (omega arith) c.args.at c.args.from (omega arith))), c.load_rest.ensures.value.1);
+      out_after = c.load_rest.ensures.out_after
+          ∙ (rw (c.next.ensures.0, c.copy-2.ensures)
+          (load_long c.args.n c.args.links.now c.args.first c.args.long c.args.cells.now c.args.out.now fits c.args.from c.args.at (omega arith) (omega arith) (omega arith)));
+    }

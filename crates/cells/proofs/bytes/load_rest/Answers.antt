@@ -14,13 +14,12 @@ loop-done-init c = (omega arith, omega arith, refl, refl, refl)
 
 pub loop-done-preserved : goal.loop-done-preserved
 loop-done-preserved c =
-    let at-loop = at_copy.before.before.before in
-    let s = at-loop.before.before.before.before in (
+    (
       omega arith,
       c.next-cell.ensures.1,
-      omega (arith, c.copy_cell.auto.0),
-      rw c.next-cell.ensures.0 (walk_goes_on s.args.n s.args.links.now at-loop.loop.cell at-loop.loop.done s.args.end (omega arith) ∙ at-loop.loop.invariant.3),
-      rw (c.next-cell.ensures.0, c.copy_cell.ensures) (load_goes_on s.args.n s.args.links.now at-loop.loop.cell s.args.cells.now at-loop.loop.out (omega arith) at-loop.loop.done s.args.end (omega arith) ∙ at-loop.loop.invariant.4),
+      omega (arith, c.copy_cell.auto.to),
+      rw c.next-cell.ensures.0 (walk_goes_on c.args.n c.args.links.now c.loop-done.cell c.loop-done.done c.args.end (omega arith) ∙ c.loop-done.invariant.3),
+      rw (c.next-cell.ensures.0, c.copy_cell.ensures) (load_goes_on c.args.n c.args.links.now c.loop-done.cell c.args.cells.now c.loop-done.out (omega arith) c.loop-done.done c.args.end (omega arith) ∙ c.loop-done.invariant.4),
     )
 
 pub shape_of-out : goal.shape_of-out
@@ -28,10 +27,9 @@ shape_of-out c = omega (arith, c.copy.auto.to)
 
 pub returns : goal.returns
 returns c =
-    let at-loop = at_copy.before.before.before.before in
-    let s = at-loop.before.before.before.before in (
-      (walk_ends s.args.n s.args.links.now at-loop.loop.cell at-loop.loop.done s.args.end (omega arith) (omega arith) ∙ at-loop.loop.invariant.3, at-loop.loop.invariant.1),
-      c.copy.ensures
-          ∙ load_ends s.args.n s.args.links.now at-loop.loop.cell s.args.cells.now at-loop.loop.out (omega arith) at-loop.loop.done s.args.end (omega arith) (omega arith)
-          ∙ at-loop.loop.invariant.4,
-    )
+    record {
+      value = (walk_ends c.args.n c.args.links.now c.loop-done.cell c.loop-done.done c.args.end (omega arith) (omega arith) ∙ c.loop-done.invariant.3, c.loop-done.invariant.1);
+      out_after = c.copy.ensures
+          ∙ load_ends c.args.n c.args.links.now c.loop-done.cell c.args.cells.now c.loop-done.out (omega arith) c.loop-done.done c.args.end (omega arith) (omega arith)
+          ∙ c.loop-done.invariant.4;
+    }

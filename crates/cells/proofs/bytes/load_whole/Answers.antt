@@ -9,16 +9,16 @@ use Rattle.cells.proofs.bytes.load_whole.Goals as goal
 
 pub returns-then-long-le-FIRST_PART : goal.returns-then-long-le-FIRST_PART
 returns-then-long-le-FIRST_PART c =
-    let fits : 80 * c.args.first + 80 ≤ length c.args.cells.now = omega arith in (
-      (walk_short c.args.n c.args.links.now c.args.first c.args.long (omega arith), omega arith),
-      c.copy.ensures ∙ whole_short c.args.n c.args.links.now c.args.first c.args.long c.args.cells.now c.args.out.now fits (omega arith),
-    )
+    let fits : 80 * c.args.first + 80 ≤ length c.args.cells.now = omega arith in record {
+      value = (walk_short c.args.n c.args.links.now c.args.first c.args.long (omega arith), omega arith);
+      out_after = c.copy.ensures ∙ whole_short c.args.n c.args.links.now c.args.first c.args.long c.args.cells.now c.args.out.now fits (omega arith);
+    }
 
 pub returns : goal.returns
 returns c =
-    let fits : 80 * c.args.first + 80 ≤ length c.args.cells.now = omega arith in (
-      (c.load_rest.ensures.value.0 ∙ (rw c.next.ensures.0 (whole_walk c.args.n c.args.links.now c.args.first c.args.long (omega arith))), c.load_rest.ensures.value.1),
-      c.load_rest.ensures.out_after
+    let fits : 80 * c.args.first + 80 ≤ length c.args.cells.now = omega arith in record {
+      value = (c.load_rest.ensures.value.0 ∙ (rw c.next.ensures.0 (whole_walk c.args.n c.args.links.now c.args.first c.args.long (omega arith))), c.load_rest.ensures.value.1);
+      out_after = c.load_rest.ensures.out_after
           ∙ (rw (c.next.ensures.0, c.copy_first_part.ensures)
-          (whole_long c.args.n c.args.links.now c.args.first c.args.long c.args.cells.now c.args.out.now fits (omega arith))),
-    )
+          (whole_long c.args.n c.args.links.now c.args.first c.args.long c.args.cells.now c.args.out.now fits (omega arith)));
+    }

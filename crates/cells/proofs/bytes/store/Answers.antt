@@ -12,15 +12,11 @@ use Rattle.cells.proofs.bytes.store.Goals as goal
 
 pub returns-then-frame-le-FIRST_PART : goal.returns-then-frame-le-FIRST_PART
 returns-then-frame-le-FIRST_PART c =
-    let at-header = at_copy.before.before.before.before.before.before in
-    let s = at-header.before.before.before.before.before in
-    ap (λ (y : List ℕ). (next_in s.args.links.now s.args.first, y)) (c.copy.ensures ∙ (rw at-header.write-header.ensures))
-    ∙ store_short s.args.n s.args.links.now s.args.first s.args.cells.now (stored_bytes s.args.header) s.args.frame.now (stored_length s.args.header) (omega arith)
+    ap (λ (y : List ℕ). (next_in c.args.links.now c.args.first, y)) (c.copy.ensures ∙ (rw c.write_header.ensures))
+    ∙ store_short c.args.n c.args.links.now c.args.first c.args.cells.now (stored_bytes c.args.header) c.args.frame.now (stored_length c.args.header) (omega arith)
 
 pub returns : goal.returns
 returns c =
-    let at-header = at_copy.before.before.before.before.before.before in
-    let s = at-header.before.before.before.before.before in
     c.store_rest.ensures
-    ∙ (rw (c.below.ensures.0, c.copy_first_part.ensures, at-header.write-header.ensures)
-    (store_long s.args.n s.args.links.now s.args.first s.args.cells.now (stored_bytes s.args.header) s.args.frame.now (stored_length s.args.header) (omega arith)))
+    ∙ (rw (c.below.ensures.0, c.copy_first_part.ensures, c.write_header.ensures)
+    (store_long c.args.n c.args.links.now c.args.first c.args.cells.now (stored_bytes c.args.header) c.args.frame.now (stored_length c.args.header) (omega arith)))

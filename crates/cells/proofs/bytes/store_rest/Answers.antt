@@ -14,12 +14,11 @@ loop-done-init c = (omega arith, omega arith, refl, refl)
 
 pub loop-done-preserved : goal.loop-done-preserved
 loop-done-preserved c =
-    let at-loop = at_copy.before.before.before in
-    let s = at-loop.before.before.before.before in (
+    (
       omega arith,
       c.next-at.ensures.1,
-      omega (arith, c.copy_cell.auto.0),
-      rw (c.next-at.ensures.0, c.copy_cell.ensures) (store_goes_on s.args.n s.args.links.now at-loop.loop.at at-loop.loop.cells s.args.frame.now at-loop.loop.done (omega arith) ∙ at-loop.loop.invariant.3),
+      omega (arith, c.copy_cell.auto.to),
+      rw (c.next-at.ensures.0, c.copy_cell.ensures) (store_goes_on c.args.n c.args.links.now c.loop-done.at c.loop-done.cells c.args.frame.now c.loop-done.done (omega arith) ∙ c.loop-done.invariant.3),
     )
 
 pub shape_of-cells : goal.shape_of-cells
@@ -27,8 +26,6 @@ shape_of-cells c = omega (arith, c.copy.auto.to)
 
 pub returns : goal.returns
 returns c =
-    let at-loop = at_copy.before.before.before.before in
-    let s = at-loop.before.before.before.before in
-    ap (λ (y : List ℕ). (next_in s.args.links.now at-loop.loop.at, y)) c.copy.ensures
-    ∙ store_ends s.args.n s.args.links.now at-loop.loop.at at-loop.loop.cells s.args.frame.now at-loop.loop.done (omega arith) (omega arith)
-    ∙ at-loop.loop.invariant.3
+    ap (λ (y : List ℕ). (next_in c.args.links.now c.loop-done.at, y)) c.copy.ensures
+    ∙ store_ends c.args.n c.args.links.now c.loop-done.at c.loop-done.cells c.args.frame.now c.loop-done.done (omega arith) (omega arith)
+    ∙ c.loop-done.invariant.3

@@ -10,29 +10,23 @@ use native.Mathlib.Omega.{arith}
 use borrow.Author.Rules.{rules}
 use Rattle.cells.proofs.free.give_back.Goals as goal
 
-facts : (s : tie.Start) → Giving s.args.n s.args.c s.args.links.now
-facts s = giving s.args.n s.args.c s.args.links.now s.requires.0.3
-
-last : (s : tie.Start) → s.args.last < s.args.n
-last s = rw s.requires.1.0 (last_in s.args.n s.args.c s.args.links.now (omega arith))
-
 written : ℕ → List ℕ → ℕ → ℕ → ℕ → List ℕ
 written c l last size left = set (set (set (set l (next_word last) (first_free l)) free_count_word (free_count l + size)) first_free_word c) (frame_word c) left
 
 pub overflow_mul-links : goal.overflow_mul-links
-overflow_mul-links c = omega (arith, last c.before.before)
+overflow_mul-links c = omega (arith, c.requires.last_value.0, last_in c.args.n c.args.c c.args.links.now (omega arith))
 
 pub overflow_add-links : goal.overflow_add-links
-overflow_add-links c = omega (arith, last c.before.before)
+overflow_add-links c = omega (arith, c.requires.last_value.0, last_in c.args.n c.args.c c.args.links.now (omega arith))
 
 pub offset_bounds-links-last : goal.offset_bounds-links-last
-offset_bounds-links-last c = omega (arith, last c.before.before)
+offset_bounds-links-last c = omega (arith, c.requires.last_value.0, last_in c.args.n c.args.c c.args.links.now (omega arith))
 
 pub bounds-links-last : goal.bounds-links-last
-bounds-links-last c = omega (arith, last c.before.before)
+bounds-links-last c = omega (arith, c.requires.last_value.0, last_in c.args.n c.args.c c.args.links.now (omega arith))
 
 pub overflow_add-links-2 : goal.overflow_add-links-2
-overflow_add-links-2 c = omega (arith, facts c.before.before, c.requires.last_value.1)
+overflow_add-links-2 c = omega (arith, giving c.args.n c.args.c c.args.links.now c.requires.n_in_bounds.3, c.requires.last_value.1)
 
 pub bounds-links-3-2 : goal.bounds-links-3-2
 bounds-links-3-2 c = simp length-set (omega arith)

@@ -10,29 +10,26 @@ use native.Mathlib.Omega.{arith}
 use borrow.Author.Rules.{rules}
 use Rattle.cells.proofs.free.take_cells.Goals as goal
 
-facts : (s : tie.Start) → Taking s.args.n s.args.k s.args.links.now
-facts s = taking s.args.n s.args.k s.args.links.now s.requires.0.3
-
 written : ℕ → ℕ → List ℕ → ℕ → List ℕ
 written k ports l after = set (set (set l free_count_word (free_count l - k)) first_free_word after) (frame_word (first_free l)) (ports + 32 * k)
 
 pub overflow_sub-links : goal.overflow_sub-links
-overflow_sub-links c = omega (arith, facts c.before.before)
+overflow_sub-links c = omega (arith, taking c.args.n c.args.k c.args.links.now c.requires.n_in_bounds.3)
 
 pub bounds-links-4-2 : goal.bounds-links-4-2
 bounds-links-4-2 c = simp length-set (omega arith)
 
 pub overflow_mul-links-2 : goal.overflow_mul-links-2
-overflow_mul-links-2 c = omega (arith, facts c.before.before)
+overflow_mul-links-2 c = omega (arith, taking c.args.n c.args.k c.args.links.now c.requires.n_in_bounds.3)
 
 pub overflow_add-links-2 : goal.overflow_add-links-2
-overflow_add-links-2 c = omega (arith, facts c.before.before)
+overflow_add-links-2 c = omega (arith, taking c.args.n c.args.k c.args.links.now c.requires.n_in_bounds.3)
 
 pub offset_bounds-links-i : goal.offset_bounds-links-i
-offset_bounds-links-i c = omega (arith, facts c.before.before)
+offset_bounds-links-i c = omega (arith, taking c.args.n c.args.k c.args.links.now c.requires.n_in_bounds.3)
 
 pub bounds-links-i : goal.bounds-links-i
-bounds-links-i c = simp length-set (omega (arith, facts c.before.before))
+bounds-links-i c = simp length-set (omega (arith, taking c.args.n c.args.k c.args.links.now c.requires.n_in_bounds.3))
 
 pub returns : goal.returns
 unfolding taken written

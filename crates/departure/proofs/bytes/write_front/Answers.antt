@@ -72,12 +72,12 @@ returns c =
     let more = leaving_few (stored_at mem first) _ own new new_is in
     let cell : 80 * first + 80 ≤ length mem = omega arith in
     let part : front_in mem first 12 ≡ take 12 bytes =
-    sym (frame_first c.args.n l mem (size_of l first) first (omega (arith, (facts s).size)) cell (stored_at mem first).length 12 (omega (arith, (facts s).short)) (omega arith)) in (
-      front_written c.args.out.now bytes (stack_is new) new.count own.count (stored_at mem first).length (whole s) (facts s).short
+    sym (frame_first c.args.n l mem (size_of l first) first (omega (arith, (facts s).size)) cell (stored_at mem first).length 12 (omega (arith, (facts s).short)) (omega arith)) in record {
+      from_after = front_written c.args.out.now bytes (stack_is new) new.count own.count (stored_at mem first).length (whole s) (facts s).short
           (sym (ap length own_is) ∙ stack_length own) few (stack_bytes_length new) _ refl
           (c.encode.ensures
           ∙ ap (λ (x : List ℕ). sets x 12 (stack_bytes (stack_is new))) (c.write_addresses.ensures ∙ ap (sets c.args.out.now 0) part))
           ∙ ap (written c.args.out.now)
-          (leaving_is c.args.n (stored_at mem first) mem l c.args.port first _ _ refl own_is new_is),
-      (omega (arith, few), omega (arith, few, more)),
-    )
+          (leaving_is c.args.n (stored_at mem first) mem l c.args.port first _ _ refl own_is new_is);
+      from_bound = (omega (arith, few), omega (arith, few, more));
+    }

@@ -26,18 +26,21 @@ whole s =
     frame_long s.args.n l s.args.cells.now (size_of l s.args.c) s.args.c s.args.long (omega arith) (omega arith) (omega (arith, size_is s))
 
 pub load_whole-requires : goal.load_whole-requires
-load_whole-requires c = ((omega arith, omega arith, omega arith), omega (arith, c.requires.c_lt_n.1, (facts s).long))
+load_whole-requires c = record {
+      n_in_bounds = (omega arith, omega arith, omega arith);
+      long_in_bounds = omega (arith, c.requires.c_lt_n.1, (facts s).long);
+    }
 
 pub returns : goal.returns
 returns c =
     let l : List ℕ = c.args.links.now in
     let mem : List ℕ = c.args.cells.now in
     let same : frame_in mem (frame_cells c.args.n l c.args.c) c.args.long ≡ frame_in mem (frame_cells c.args.n l c.args.c) (stored_at mem c.args.c).length =
-    ap (frame_in mem (frame_cells c.args.n l c.args.c)) c.requires.c_lt_n.1 in (
-      last_is c.args.n l c.args.c c.args.long (size_is s) c.load_whole.ensures.value.0,
-      plain_written c.args.n l c.args.c c.args.long (size_is s) mem c.args.out.now c.load_whole.ensures.out_after (whole s)
+    ap (frame_in mem (frame_cells c.args.n l c.args.c)) c.requires.c_lt_n.1 in record {
+      value = last_is c.args.n l c.args.c c.args.long (size_is s) c.load_whole.ensures.value.0;
+      out_after = plain_written c.args.n l c.args.c c.args.long (size_is s) mem c.args.out.now c.load_whole.ensures.out_after (whole s)
           ∙ ap (written c.args.out.now)
           (same
           ∙ plain_leaves c.args.n (stored_at mem c.args.c) mem l c.args.port c.args.c (λ i. omega (arith, c.shared_slice_known-1.given i)) refl
-          (rw (← same) (omega (arith, whole s, c.requires.c_lt_n.1, (facts s).short))) c.requires.c_lt_n.3),
-    )
+          (rw (← same) (omega (arith, whole s, c.requires.c_lt_n.1, (facts s).short))) c.requires.c_lt_n.3);
+    }

@@ -44,9 +44,9 @@ returns c =
     let front = c.write_front-front in
     let e = front.ensures in
     let loaded = c.load-last.ensures in
-    let padded = c.pad-written.ensures in (
-      finished_is c.args.n c.args.links.now c.args.c c.args.long (size_is s) c.args.cells.now front.new.1.1.1.1.1.0 front.result.from front.result.at (front.result.at + (c.args.long - front.result.from)) loaded.1 padded
+    let padded = c.pad-written.ensures in record {
+      out_after = finished_is c.args.n c.args.links.now c.args.c c.args.long (size_is s) c.args.cells.now front.new.1.1.1.1.1.0 front.result.from front.result.at (front.result.at + (c.args.long - front.result.from)) loaded.1 padded
           ∙ ap (λ (k : ℕ). finished front.new.1.1.1.1.1.0 front.result.from front.result.at (frame_in c.args.cells.now (frame_cells c.args.n c.args.links.now c.args.c) k) (front.result.at + (k - front.result.from))) c.requires.c_lt_n.1
-          ∙ e.0,
-      (omega (arith, padded.0, e.1, c.requires.c_lt_n.1, f.short, f.long), last_is c.args.n c.args.links.now c.args.c c.args.long (size_is s) loaded.0.0),
-    )
+          ∙ e.0;
+      long_le_largest_result = (omega (arith, padded.0, e.1, c.requires.c_lt_n.1, f.short, f.long), last_is c.args.n c.args.links.now c.args.c c.args.long (size_is s) loaded.0.0);
+    }

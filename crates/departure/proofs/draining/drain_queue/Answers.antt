@@ -19,10 +19,10 @@ shape_of-links-then-not-waits c = c.loop-turn.invariant.1
 
 pub returns-then-not-waits : goal.returns-then-not-waits
 returns-then-not-waits c =
-    (
-      done_stop c.args.n c.args.port c.args.queue c.args.links.now c.loop-turn.turn c.loop-turn.links c.loop-turn.invariant.0 (sym c.waits.ensures ∙ c.if-not-waits.true),
-      omega (arith, c.requires, c.loop-turn.invariant.0.few),
-    )
+    record {
+      links_after = done_stop c.args.n c.args.port c.args.queue c.args.links.now c.loop-turn.turn c.loop-turn.links c.loop-turn.invariant.0 (sym c.waits.ensures ∙ c.if-not-waits.true);
+      upper_bound = omega (arith, c.requires, c.loop-turn.invariant.0.few);
+    }
 
 pub drain_one-requires : goal.drain_one-requires
 drain_one-requires c = omega (arith, c.requires, c.loop-turn.invariant.1)
@@ -39,7 +39,7 @@ shape_of-links c = c.loop-turn.invariant.1
 
 pub returns : goal.returns
 returns c =
-    (
-      done_end c.args.n c.args.port c.args.queue c.args.links.now c.loop-turn.turn c.loop-turn.links c.loop-turn.invariant.0 c.loop-turn-test.false,
-      omega (arith, c.requires, c.loop-turn.invariant.0.few),
-    )
+    record {
+      links_after = done_end c.args.n c.args.port c.args.queue c.args.links.now c.loop-turn.turn c.loop-turn.links c.loop-turn.invariant.0 c.loop-turn-test.false;
+      upper_bound = omega (arith, c.requires, c.loop-turn.invariant.0.few);
+    }

@@ -12,7 +12,10 @@ pub has_room-requires : goal.has_room-requires
 has_room-requires c =
     let word = c.word-word in
     let left = c.turned-left in
-    ((omega arith, omega arith, omega arith), waits_here c.args.port c.args.c c.args.links.now word.result left.result (omega arith) word.ensures left.ensures c.if-left-word.true)
+    record {
+      n_in_bounds = (omega arith, omega arith, omega arith);
+      port_value = waits_here c.args.port c.args.c c.args.links.now word.result left.result (omega arith) word.ensures left.ensures c.if-left-word.true;
+    }
 
 pub returns-then-left-word : goal.returns-then-left-word
 returns-then-left-word c =

@@ -17,4 +17,7 @@ pub depart_from-requires : goal.depart_from-requires
 depart_from-requires c =
     let word = c.word in
     let left = c.turned-left in
-    ((omega arith, omega arith, omega arith), (c.requires.links_value, c.last-last.ensures.0, left_here c.args.port c.args.c c.args.links.now word.result left.result (omega arith) word.ensures left.ensures (facts s).waits))
+    record {
+      n_in_bounds = (omega arith, omega arith, omega arith);
+      links_value = (c.requires.links_value, c.last-last.ensures.0, left_here c.args.port c.args.c c.args.links.now word.result left.result (omega arith) word.ensures left.ensures (facts s).waits);
+    }

@@ -12,10 +12,10 @@ facts s = leaves s.args.n s.args.port s.args.c s.args.links.now s.requires.1.0
 
 pub give_back-requires : goal.give_back-requires
 give_back-requires c =
-    let f = facts s in (
-      (omega arith, omega arith, f.below, f.room (none_left c.args.port c.args.c c.args.links.now c.args.left (omega arith) f.waits c.requires.links_value.2 c.if-ports-eq0.true)),
-      (c.requires.links_value.1, left_alone c.args.port c.args.c c.args.links.now c.args.left (omega arith) f.waits c.requires.links_value.2 c.if-ports-eq0.true),
-    )
+    let f = facts s in record {
+      n_in_bounds = (omega arith, omega arith, f.below, f.room (none_left c.args.port c.args.c c.args.links.now c.args.left (omega arith) f.waits c.requires.links_value.2 c.if-ports-eq0.true));
+      last_value = (c.requires.links_value.1, left_alone c.args.port c.args.c c.args.links.now c.args.left (omega arith) f.waits c.requires.links_value.2 c.if-ports-eq0.true);
+    }
 
 pub set_word-requires : goal.set_word-requires
 set_word-requires c = omega (arith, facts c.before.before.before)

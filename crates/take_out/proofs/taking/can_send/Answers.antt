@@ -8,7 +8,10 @@ use Rattle.take_out.proofs.taking.can_send.Goals as goal
 
 pub has_room-requires : goal.has_room-requires
 has_room-requires c =
-    ((omega arith, omega arith, omega arith), waits_here c.args.port c.args.c c.args.links.now c.args.word c.turned-left.result (omega arith) c.requires.own_value.1 c.turned-left.ensures c.if-left-word.true)
+    record {
+      n_in_bounds = (omega arith, omega arith, omega arith);
+      port_value = waits_here c.args.port c.args.c c.args.links.now c.args.word c.turned-left.result (omega arith) c.requires.own_value.1 c.turned-left.ensures c.if-left-word.true;
+    }
 
 pub returns-then-left-word : goal.returns-then-left-word
 returns-then-left-word c =

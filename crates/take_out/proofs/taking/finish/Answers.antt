@@ -6,7 +6,10 @@ use borrow.Author.Rules.{rules}
 use Rattle.take_out.proofs.taking.finish.Goals as goal
 
 pub depart_from-requires : goal.depart_from-requires
-depart_from-requires c = ((omega arith, omega arith, omega arith), (c.requires.links_value.0, c.requires.links_value.2, c.requires.links_value.1))
+depart_from-requires c = record {
+      n_in_bounds = (omega arith, omega arith, omega arith);
+      links_value = (c.requires.links_value.0, c.requires.links_value.2, c.requires.links_value.1);
+    }
 
 pub leave-requires : goal.leave-requires
 leave-requires c = omega (arith, c.requires.n_in_bounds, c.depart_from.auto.links, (leaves c.args.n c.args.port c.args.c c.args.links.now c.requires.links_value.0).below)
@@ -16,4 +19,7 @@ overflow_cast-written c = omega (arith, c.requires.links_value.3)
 
 pub returns : goal.returns
 returns c =
-    (c.done.ensures, sent_from_lem c.args.n c.args.links.now c.args.port c.args.queue c.args.c _ _ c.depart_from.ensures c.leave.ensures)
+    record {
+      value = c.done.ensures;
+      links_after = sent_from_lem c.args.n c.args.links.now c.args.port c.args.queue c.args.c _ _ c.depart_from.ensures c.leave.ensures;
+    }

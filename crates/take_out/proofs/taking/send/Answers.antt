@@ -35,26 +35,32 @@ write_plain-last-requires c =
     ((omega arith, omega arith, omega arith), ((leaves_now s).below, long_is s, (both s).1, plain))
 
 pub finish-requires : goal.finish-requires
-finish-requires c = ((omega arith, omega arith, omega arith, omega arith), ((both s).0, c.requires.h_value.3, c.write_plain-last.ensures.value, few s))
+finish-requires c = record {
+      n_in_bounds = (omega arith, omega arith, omega arith, omega arith);
+      links_value = ((both s).0, c.requires.h_value.3, c.write_plain-last.ensures.value, few s);
+    }
 
 pub returns-then-is_plain : goal.returns-then-is_plain
 returns-then-is_plain c =
-    (
-      sent_is c.args.cells.now c.args.n c.args.links.now c.args.port c.args.out.now c.args.queue c.args.c (omega (arith, c.requires.n_in_bounds)) _ _ _ _
-          c.finish.ensures.value c.write_plain-last.ensures.out_after c.finish.ensures.links_after,
-      rw c.finish.ensures.value (few s),
-    )
+    record {
+      out_after = sent_is c.args.cells.now c.args.n c.args.links.now c.args.port c.args.out.now c.args.queue c.args.c (omega (arith, c.requires.n_in_bounds)) _ _ _ _
+          c.finish.ensures.value c.write_plain-last.ensures.out_after c.finish.ensures.links_after;
+      x_le_largest_result = rw c.finish.ensures.value (few s);
+    }
 
 pub write_retagged-written-requires : goal.write_retagged-written-requires
 write_retagged-written-requires c = ((omega arith, omega arith, omega arith, omega arith), ((leaves_now s).below, long_is s, (both s).1))
 
 pub finish-requires-2 : goal.finish-requires-2
-finish-requires-2 c = ((omega arith, omega arith, omega arith, omega arith), ((both s).0, c.requires.h_value.3, c.write_retagged-written.ensures.long_le_largest_result.1, c.write_retagged-written.ensures.long_le_largest_result.0))
+finish-requires-2 c = record {
+      n_in_bounds = (omega arith, omega arith, omega arith, omega arith);
+      links_value = ((both s).0, c.requires.h_value.3, c.write_retagged-written.ensures.long_le_largest_result.1, c.write_retagged-written.ensures.long_le_largest_result.0);
+    }
 
 pub returns : goal.returns
 returns c =
-    (
-      sent_is c.args.cells.now c.args.n c.args.links.now c.args.port c.args.out.now c.args.queue c.args.c (omega (arith, c.requires.n_in_bounds)) _ _ _ _
-          c.finish-2.ensures.value c.write_retagged-written.ensures.out_after c.finish-2.ensures.links_after,
-      rw c.finish-2.ensures.value c.write_retagged-written.ensures.long_le_largest_result.0,
-    )
+    record {
+      out_after = sent_is c.args.cells.now c.args.n c.args.links.now c.args.port c.args.out.now c.args.queue c.args.c (omega (arith, c.requires.n_in_bounds)) _ _ _ _
+          c.finish-2.ensures.value c.write_retagged-written.ensures.out_after c.finish-2.ensures.links_after;
+      x_le_largest_result = rw c.finish-2.ensures.value c.write_retagged-written.ensures.long_le_largest_result.0;
+    }
