@@ -23,7 +23,7 @@ last_in l p last c (d ∷ ds) b = omega (arith, last_in l p last d ds b.1, times
 -- one that has others behind it is not the last
 pub not_last : (l : List ℕ) (p last c d : ℕ) (ds : List ℕ) → Behind l p last d ds → ((x : ℕ) → times x (c ∷ d ∷ ds) ≤ 1) → c ≡ last → ⊥
 not_last l p last c d ds b once e =
-    let many : 2 ≤ times c (c ∷ d ∷ ds) = rw e (omega (arith, last_in l p last d ds b, times_here last (d ∷ ds))) in
+    let many : 2 ≤ times c (c ∷ d ∷ ds) = omega (arith, times_here c (d ∷ ds), ap (λ (x : ℕ). times x (d ∷ ds)) e, last_in l p last d ds b) in
     omega (arith, once c)
 
 once_rest : (c : ℕ) (cs : List ℕ) → ((x : ℕ) → times x (c ∷ cs) ≤ 1) → (x : ℕ) → times x cs ≤ 1
