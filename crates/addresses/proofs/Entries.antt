@@ -56,9 +56,9 @@ parts n u h =
 pub port_below : (n : ℕ) → n % 2048 < 20 → port_in n ≤ 4
 port_below n h = rw (low_port n) (omega arith)
 
-pub entry_of : (n : ℕ) → used_in n ≡ true → entry_of n ≡ some (entry_in n)
+pub entry_used : (n : ℕ) → used_in n ≡ true → entry_of n ≡ some (entry_in n)
 unfolding entry_of
-entry_of n u = rw u
+entry_used n u = rw u
 
 pub entry_there : (n : ℕ) (e : Entry) → entry_of n ≡ some e → (used_in n ≡ true) × (entry_in n ≡ e)
 unfolding entry_of
@@ -87,8 +87,8 @@ pub used_range : (n : ℕ) → used_in n ≡ true → in_range n ≡ parts_in_ra
 unfolding in_range
 used_range n u = rw (used_there n u, u)
 
-pub in_range : (n : ℕ) → used_in n ≡ true → n % 2048 < 20 → in_range n ≡ true
-in_range n u p = used_range n u ∙ lt-ltb (n % 2048) 20 p
+pub used_below : (n : ℕ) → used_in n ≡ true → n % 2048 < 20 → in_range n ≡ true
+used_below n u p = used_range n u ∙ lt-ltb (n % 2048) 20 p
 
 pub zero_in_range : in_range 0 ≡ true
 unfolding in_range
@@ -159,13 +159,13 @@ module _ (e : Entry) (f : Fits e) where
       (bit_on e.static (number_of e / 2 % 2) (made_static e.key e.port (bit e.static) (bit e.marked) f.port_fits static_bit marked_bit))
 
   pub read_written : entry_of (number_of e) ≡ some e
-  read_written = entry_of (number_of e) written_used ∙ ap some written
+  read_written = entry_used (number_of e) written_used ∙ ap some written
 
   pub written_in_range : in_range (number_of e) ≡ true
   unfolding number_of
   written_in_range =
       let low : number_of e % 2048 ≡ e.port * 4 + bit e.static * 2 + bit e.marked = made_low e.key e.port (bit e.static) (bit e.marked) f.port_fits static_bit marked_bit in
-      in_range (number_of e) written_used (omega (arith, f.port_fits, static_bit, marked_bit))
+      used_below (number_of e) written_used (omega (arith, f.port_fits, static_bit, marked_bit))
 
 pub read_fits : (n : ℕ) (e : Entry) → n < 2 ^ 64 → in_range n ≡ true → entry_of n ≡ some e → Fits e
 unfolding entry_in
@@ -273,7 +273,7 @@ module _ (n : ℕ) (u : marked_in n ≡ true) where
     unmarked_entry : static_in n ≡ false → entry_of (n - 1) ≡ some (record { key = key_in n; port = port_in n; marked = false; static = false })
     unfolding entry_in
     unmarked_entry s =
-        entry_of (n - 1) (unmarked_alike.vacancy ∙ i)
+        entry_used (n - 1) (unmarked_alike.vacancy ∙ i)
         ∙ ap some (entry_same unmarked_alike.key unmarked_alike.port (ne_eqb ((n - 1) % 2) 1 (λ e. omega (arith, mark_off))) (unmarked_static ∙ s))
 
 module _ (n : ℕ) where

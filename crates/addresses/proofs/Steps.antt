@@ -17,7 +17,7 @@ use Rattle.addresses.specs.Writes.{marked_number, marked_by, learned_number, lea
 use Rattle.addresses.specs.Theorems.{Fits, StepTheorems, RangeTheorems}
 use Rattle.addresses.specs.declared.LookUp.{LookUp}
 use Rattle.addresses.specs.declared.LookUp.TheVariants.{Found, Vacant, Full, Damaged}
-use Rattle.addresses.proofs.Entries.{zero_in_range, marked_alike, marked_entry, marked_in_range, entry_of, entry_there, older_entry, read_written, written_in_range, table_set}
+use Rattle.addresses.proofs.Entries.{zero_in_range, marked_alike, marked_entry, marked_in_range, entry_used, entry_there, older_entry, read_written, written_in_range, table_set}
 use Rattle.addresses.proofs.Passes.{older_read}
 use Rattle.addresses.proofs.Ranges.{all_at, all_set, all_older}
 use Rattle.addresses.proofs.LookUps.{Hit, find_hit, empty_inside, look_up_finds, found_at, found_there}
@@ -43,7 +43,7 @@ static_read n e h = ap (λ (x : Entry). x.static) (entry_there n e h).1
 marked_read : (n : ℕ) (e : Entry) → entry_of n ≡ some e → entry_of (marked_number n) ≡ some (with_mark true e)
 marked_read n e h =
     let t = entry_there n e h in
-    entry_of (marked_number n) ((marked_alike n).vacancy ∙ t.0) ∙ ap some (marked_entry n ∙ ap (with_mark true) t.1)
+    entry_used (marked_number n) ((marked_alike n).vacancy ∙ t.0) ∙ ap some (marked_entry n ∙ ap (with_mark true) t.1)
 
 -- ---- one place
 

@@ -5,10 +5,10 @@ use borrow.Author.Rules.{rules}
 use Rattle.addresses.proofs.remove.Goals as goal
 
 pub returns-in_default : goal.returns-in_default
-returns-in_default c = remove_unfound _ _ c.in_default.keys2
+returns-in_default c = remove_unfound _ _ (search rules)
 
 pub bounds-addresses-place : goal.bounds-addresses-place
-bounds-addresses-place c = found_inside c.found-1.given.1 _ c.requires
+bounds-addresses-place c = found_inside c.in-Found.is _ c.requires
 
 pub returns : goal.returns
-returns c = remove_found_lem c.found-1.given.1 _
+returns c = remove_found_lem c.in-Found.is _

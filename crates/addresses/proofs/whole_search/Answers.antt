@@ -18,19 +18,17 @@ returns-then-turn-eq-TURNS c =
     c.not_found.ensures ∙ sym (c.search.invariant.1 ∙ seek_end _ _ _ _ c.if-turn-eq-TURNS.true)
 
 -- the place that a turn meets
-met : (c : tie.After-place-at invariant_search decreases_search)
-    → c.place_at.result ≡ place_at (bucket_of c.before.before.before.before.before.args.key) c.before.before.search.turn
-met c = c.place_at.ensures.0 ∙ ap (λ (b : ℕ). place_at b c.before.before.search.turn) c.before.before.before.bucket-of.ensures.0
+met : (place bucket key turn : ℕ) → place ≡ place_at bucket turn → bucket ≡ bucket_of key → place ≡ place_at (bucket_of key) turn
+met place bucket key turn reached from = reached ∙ ap (λ (b : ℕ). place_at b turn) from
 
 pub search-preserved : goal.search-preserved
-search-preserved c =
-    (
-      omega arith,
-      c.search.invariant.1
-          ∙ seek_next _ _ _ _ _ (omega arith) (met p) (sym c.is_entry.ensures ∙ c.if-is_entry.false) _ c.first_empty-empty.ensures,
-    )
+search-preserved c = (
+  omega arith,
+  c.search.invariant.1
+      ∙ seek_next _ _ _ _ _ (omega arith) (met _ _ _ _ c.place_at-place.ensures.0 c.bucket_of-bucket.ensures.0) (sym c.is_entry.ensures ∙ c.if-is_entry.false) _ c.first_empty-empty.ensures,
+)
 
 pub returns : goal.returns
 returns c =
     c.answer_at.ensures
-    ∙ sym (c.search.invariant.1 ∙ seek_met _ _ _ _ _ (omega arith) (met p) (sym c.is_entry.ensures ∙ c.if-is_entry.true))
+    ∙ sym (c.search.invariant.1 ∙ seek_met _ _ _ _ _ (omega arith) (met _ _ _ _ c.place_at-place.ensures.0 c.bucket_of-bucket.ensures.0) (sym c.is_entry.ensures ∙ c.if-is_entry.true))
