@@ -7,7 +7,7 @@ use borrow.Author.Rules.{rules}
 use Rattle.arrival.proofs.candidates.chosen.Goals as goal
 
 pub returns-in_default : goal.returns-in_default
-returns-in_default c = chosen_every _ c.in_default.keys2
+returns-in_default c = chosen_every _ c.in_default.is
 
 pub power-requires : goal.power-requires
 power-requires c = let f : _ < 5 = c.requires.port_there _ _ c.found-1.given.1 in omega (arith, f)
