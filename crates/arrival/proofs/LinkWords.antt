@@ -35,13 +35,13 @@ module _ (l : List ℕ) where
   unfolding settings_of switches_of switch_of
   switch_is r q h k = rw (lt-ltb r 5 h, lt-ltb q 4 k)
 
-  state_of : (r : ℕ) → (port_of (port_at l r)).state ≡ state_of (state_in (states_at l) r)
+  state_is : (r : ℕ) → (port_of (port_at l r)).state ≡ state_of (state_in (states_at l) r)
   unfolding port_of port_in
-  state_of r = refl
+  state_is r = refl
 
   open_is : (v : Vlan) (r : ℕ) → r < 5 → departs (state_for (settings_of l) v r) ≡ bit (states_at l) r
   unfolding state_for
-  open_is v r h = ap (λ (p : Port). departs p.state) (port_is_lem r h) ∙ ap departs (state_of r) ∙ open_in (states_at l) r
+  open_is v r h = ap (λ (p : Port). departs p.state) (port_is_lem r h) ∙ ap departs (state_is r) ∙ open_in (states_at l) r
 
   -- the masks of the words are those of the rules' tests
   pub masks_in_lem : (v : Vlan) (chooses : ℕ → Bool) (port queue members chosen : ℕ) → members < 32 → queue ≤ 3

@@ -7,10 +7,10 @@ use borrow.Author.Rules.{rules}
 use Rattle.arrival.proofs.candidates.chosen.Goals as goal
 
 pub returns-in_default : goal.returns-in_default
-returns-in_default c = chosen_every _ c.in_default.is
+returns-in_default c = chosen_every _ (search rules)
 
 pub power-requires : goal.power-requires
-power-requires c = let f : _ < 5 = c.requires.port_there _ _ c.found-1.given.1 in omega (arith, f)
+power-requires c = let f : _ < 5 = c.requires.port_there _ _ c.in-Found.is in omega (arith, f)
 
 pub returns : goal.returns
-returns c = c.power.ensures ∙ chosen_found c.found-1.given.1
+returns c = c.power.ensures ∙ chosen_found c.in-Found.is
