@@ -11,12 +11,11 @@ use Rattle.frame_in.proofs.Each.{ports_from, each_starts, each_turn, each_ends}
 use Rattle.frame_in.proofs.carry.push_all.Goals as goal
 
 pub loop-port-init : goal.loop-port-init
-loop-port-init c =
-    (
-      omega arith,
-      refl,
-      each_starts (enqueue_at c.args.n c.args.queue c.args.first) c.args.left _,
-    )
+loop-port-init c = (
+  omega arith,
+  refl,
+  each_starts (enqueue_at c.args.n c.args.queue c.args.first) c.args.left _,
+)
 
 pub loop-port-preserved : goal.loop-port-preserved
 loop-port-preserved c =
