@@ -18,27 +18,13 @@ use Rattle.departure.proofs.Headers.{Header, header}
 use borrow.Author.Rules.{rules}
 use Rattle.departure.proofs.bytes.write_front.Goals as goal
 
-facts : (s : tie.Start) → Header (stored_at s.args.cells.now s.args.c) s.args.port s.args.c s.args.links.now
-facts s = header (stored_at s.args.cells.now s.args.c) s.args.port s.args.c s.args.links.now s.requires.1.1
-
-whole : (s : tie.Start) → length (bytes_at s.args.n s.args.cells.now s.args.links.now s.args.c) ≡ (stored_at s.args.cells.now s.args.c).length
-whole s =
-    let l : List ℕ = s.args.links.now in
-    frame_long s.args.n l s.args.cells.now (size_of l s.args.c) s.args.c (stored_at s.args.cells.now s.args.c).length (omega arith) (omega arith) (omega (arith, (facts s).size))
-
--- the tags in the first cell are the frame's
-own_tags : (s : tie.Start) → tags_of (front_in s.args.cells.now s.args.c 20) ≡ tags_of (bytes_at s.args.n s.args.cells.now s.args.links.now s.args.c)
-own_tags s =
-    let l : List ℕ = s.args.links.now in
-    let mem : List ℕ = s.args.cells.now in
-    let cell : 80 * s.args.c + 80 ≤ length mem = omega arith in
-    ap tags_of (sym (frame_first s.args.n l mem (size_of l s.args.c) s.args.c (omega (arith, (facts s).size)) cell (stored_at mem s.args.c).length 20 (omega (arith, (facts s).short)) (omega arith)))
-    ∙ tags_front (bytes_at s.args.n mem l s.args.c)
-
 pub leaving-new-requires : goal.leaving-new-requires
 leaving-new-requires c =
     let is = c.read_header-h.ensures in
-    ((omega arith, omega arith, decoded_count c.tags_at-own.result _ c.tags_at-own.ensures), (rw is (facts s).stored, rw is (facts s).operation))
+    let f = header (stored_at c.args.cells.now c.args.c) c.args.port c.args.c c.args.links.now c.requires.c_lt_n.1 in record {
+      fixed_words_in_bounds = (omega arith, omega arith, decoded_count c.tags_at-own.result _ c.tags_at-own.ensures);
+      operation_value = (rw is f.stored, rw is f.operation);
+    }
 
 pub encode-requires : goal.encode-requires
 encode-requires c =
@@ -64,16 +50,23 @@ returns c =
     let l : List ℕ = c.args.links.now in
     let first : ℕ = c.args.c in
     let bytes : List ℕ = bytes_at c.args.n mem l first in
+    let f = header (stored_at c.args.cells.now c.args.c) c.args.port c.args.c c.args.links.now c.requires.c_lt_n.1 in
     let own = c.tags_at-own.result in
     let new = c.leaving-new.result in
-    let own_is : stack_is own ≡ tags_of bytes = c.tags_at-own.ensures ∙ own_tags s in
+    let cell : 80 * first + 80 ≤ length mem = omega arith in
+    let whole : length bytes ≡ (stored_at mem first).length =
+    frame_long c.args.n l mem (size_of l first) first (stored_at mem first).length (omega arith) (omega arith) (omega (arith, f.size)) in
+    -- the tags in the first cell are the frame's
+    let own_tags : tags_of (front_in mem first 20) ≡ tags_of bytes =
+    ap tags_of (sym (frame_first c.args.n l mem (size_of l first) first (omega (arith, f.size)) cell (stored_at mem first).length 20 (omega (arith, f.short)) (omega arith)))
+    ∙ tags_front bytes in
+    let own_is : stack_is own ≡ tags_of bytes = c.tags_at-own.ensures ∙ own_tags in
     let new_is : stack_is new ≡ leaving_of (stored_at mem first) (operation_of_port l c.args.port) (stack_is own) = rw c.read_header-h.ensures at c.leaving-new.ensures in
     let few = decoded_count own _ c.tags_at-own.ensures in
     let more = leaving_few (stored_at mem first) _ own new new_is in
-    let cell : 80 * first + 80 ≤ length mem = omega arith in
     let part : front_in mem first 12 ≡ take 12 bytes =
-    sym (frame_first c.args.n l mem (size_of l first) first (omega (arith, (facts s).size)) cell (stored_at mem first).length 12 (omega (arith, (facts s).short)) (omega arith)) in record {
-      from_after = front_written c.args.out.now bytes (stack_is new) new.count own.count (stored_at mem first).length (whole s) (facts s).short
+    sym (frame_first c.args.n l mem (size_of l first) first (omega (arith, f.size)) cell (stored_at mem first).length 12 (omega (arith, f.short)) (omega arith)) in record {
+      from_after = front_written c.args.out.now bytes (stack_is new) new.count own.count (stored_at mem first).length whole f.short
           (sym (ap length own_is) ∙ stack_length own) few (stack_bytes_length new) _ refl
           (c.encode.ensures
           ∙ ap (λ (x : List ℕ). sets x 12 (stack_bytes (stack_is new))) (c.write_addresses.ensures ∙ ap (sets c.args.out.now 0) part))

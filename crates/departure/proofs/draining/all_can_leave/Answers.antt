@@ -29,13 +29,12 @@ pub behind-c-requires : goal.behind-c-requires
 behind-c-requires c = omega (arith, c.requires, c.loop-rest.invariant.1)
 
 pub loop-rest-preserved : goal.loop-rest-preserved
-loop-rest-preserved c =
-    (
-      ap (λ (x : ℕ). all_can_leave c.args.n c.args.port c.args.links.now (rest_from c.args.n c.args.port c.args.queue c.args.links.now (c.loop-rest.rest - 1) x)) c.behind-c.ensures.0
-          ∙ rest_next c.args.n c.args.port c.args.queue c.args.links.now c.loop-rest.rest c.loop-rest.c c.loop-rest-test.true (sym c.can_leave.ensures ∙ c.if-not-can_leave.false) (sym c.is_youngest.ensures ∙ c.if-is_youngest.false)
-          ∙ c.loop-rest.invariant.0,
-      c.behind-c.ensures.1,
-    )
+loop-rest-preserved c = (
+  ap (λ (x : ℕ). all_can_leave c.args.n c.args.port c.args.links.now (rest_from c.args.n c.args.port c.args.queue c.args.links.now (c.loop-rest.rest - 1) x)) c.behind-c.ensures.0
+      ∙ rest_next c.args.n c.args.port c.args.queue c.args.links.now c.loop-rest.rest c.loop-rest.c c.loop-rest-test.true (sym c.can_leave.ensures ∙ c.if-not-can_leave.false) (sym c.is_youngest.ensures ∙ c.if-is_youngest.false)
+      ∙ c.loop-rest.invariant.0,
+  c.behind-c.ensures.1,
+)
 
 pub returns : goal.returns
 returns c =

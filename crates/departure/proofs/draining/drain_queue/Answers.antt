@@ -28,11 +28,10 @@ pub drain_one-requires : goal.drain_one-requires
 drain_one-requires c = omega (arith, c.requires, c.loop-turn.invariant.1)
 
 pub loop-turn-preserved : goal.loop-turn-preserved
-loop-turn-preserved c =
-    (
-      done_next c.args.n c.args.port c.args.queue c.args.links.now c.loop-turn.turn c.loop-turn.links c.loop-turn.invariant.0 c.loop-turn-test.true (sym c.waits.ensures ∙ c.if-not-waits.false) _ c.drain_one.ensures,
-      c.drain_one.auto.0 ∙ c.loop-turn.invariant.1,
-    )
+loop-turn-preserved c = (
+  done_next c.args.n c.args.port c.args.queue c.args.links.now c.loop-turn.turn c.loop-turn.links c.loop-turn.invariant.0 c.loop-turn-test.true (sym c.waits.ensures ∙ c.if-not-waits.false) _ c.drain_one.ensures,
+  c.drain_one.auto.links ∙ c.loop-turn.invariant.1,
+)
 
 pub shape_of-links : goal.shape_of-links
 shape_of-links c = c.loop-turn.invariant.1

@@ -7,9 +7,9 @@ use Rattle.departure.proofs.draining.drop_copy.Goals as goal
 
 pub depart-requires : goal.depart-requires
 depart-requires c = record {
-      n_in_bounds = (omega arith, omega arith, omega arith);
-      links_value = sym c.can_leave.ensures ∙ c.if-can_leave.true;
-    }
+  n_in_bounds = (omega arith, omega arith, omega arith);
+  links_value = sym c.can_leave.ensures ∙ c.if-can_leave.true;
+}
 
 pub returns-then-can_leave : goal.returns-then-can_leave
 returns-then-can_leave c = c.depart.ensures ∙ dropped_good c.args.n c.args.port c.args.c c.args.links.now (sym c.can_leave.ensures ∙ c.if-can_leave.true)

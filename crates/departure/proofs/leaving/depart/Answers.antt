@@ -4,14 +4,11 @@ use Rattle.departure.proofs.Copies.{Leaves, leaves, left_here}
 use borrow.Author.Rules.{rules}
 use Rattle.departure.proofs.leaving.depart.Goals as goal
 
-facts : (s : tie.Start) → Leaves s.args.n s.args.port s.args.c s.args.links.now
-facts s = leaves s.args.n s.args.port s.args.c s.args.links.now s.requires.1
-
 pub last-last-requires : goal.last-last-requires
-last-last-requires c = (omega arith, (facts s).below, (facts s).frame)
+last-last-requires c = let f = leaves c.args.n c.args.port c.args.c c.args.links.now c.requires.links_value in (omega arith, f.below, f.frame)
 
 pub word-requires : goal.word-requires
-word-requires c = omega (arith, facts c.before.before.before.before)
+word-requires c = omega (arith, leaves c.args.n c.args.port c.args.c c.args.links.now c.requires.links_value)
 
 pub depart_from-requires : goal.depart_from-requires
 depart_from-requires c =
@@ -19,5 +16,5 @@ depart_from-requires c =
     let left = c.turned-left in
     record {
       n_in_bounds = (omega arith, omega arith, omega arith);
-      links_value = (c.requires.links_value, c.last-last.ensures.0, left_here c.args.port c.args.c c.args.links.now word.result left.result (omega arith) word.ensures left.ensures (facts s).waits);
+      links_value = (c.requires.links_value, c.last-last.ensures.0, left_here c.args.port c.args.c c.args.links.now word.result left.result (omega arith) word.ensures left.ensures (leaves c.args.n c.args.port c.args.c c.args.links.now c.requires.links_value).waits);
     }

@@ -7,16 +7,16 @@ use Rattle.gufhrandi.proofs.perform.perform.Goals as goal
 
 pub returns-in-FrameIn : goal.returns-in-FrameIn
 unfolding run asked
-returns-in-FrameIn c = rw (c.call-1.given.1, ← c.gufhrandi_frame_in.ensures)
+returns-in-FrameIn c = rw (c.in-FrameIn.is, ← c.gufhrandi_frame_in.ensures)
 
 pub returns-in-Take : goal.returns-in-Take
 unfolding run asked
-returns-in-Take c = rw (c.call-in-Take-1.given.1, ← c.gufhrandi_take.ensures)
+returns-in-Take c = rw (c.in-Take.is, ← c.gufhrandi_take.ensures)
 
 pub returns-in-Addresses : goal.returns-in-Addresses
 unfolding run asked
-returns-in-Addresses c = rw c.call-in-Addresses-1.given.1 (rw (run_addresses _ _ _, ← c.on_addresses.ensures))
+returns-in-Addresses c = rw c.in-Addresses.is (rw (run_addresses _ _ _, ← c.on_addresses.ensures))
 
 pub returns-in-Links : goal.returns-in-Links
 unfolding run asked
-returns-in-Links c = rw c.call-in-Links-1.given.1 (rw (run_links _ _ _, ← c.on_links.ensures))
+returns-in-Links c = rw c.in-Links.is (rw (run_links _ _ _, ← c.on_links.ensures))

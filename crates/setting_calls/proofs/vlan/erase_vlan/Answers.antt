@@ -9,14 +9,14 @@ use Rattle.setting_calls.proofs.vlan.erase_vlan.Goals as goal
 
 pub returns-in-At : goal.returns-in-At
 returns-in-At c =
-    cleared_there _ _ _ (sym c.find_vlan.ensures ∙ c.entry-1.given.1) c.clear_vlan.ensures c.done.ensures
+    cleared_there _ _ _ (sym c.find_vlan.ensures ∙ c.in-At.is) c.clear_vlan.ensures c.done.ensures
 
 pub returns-in-Nowhere : goal.returns-in-Nowhere
 unfolding refusal_number
 returns-in-Nowhere c =
-    cleared_missing _ _ (sym c.find_vlan.ensures ∙ c.enum_told-1.given.1) c.refused.ensures
+    cleared_missing _ _ (sym c.find_vlan.ensures ∙ c.in-Nowhere.is) c.refused.ensures
 
 pub returns-in-Damaged : goal.returns-in-Damaged
 unfolding refusal_number
 returns-in-Damaged c =
-    cleared_damaged _ _ (sym c.find_vlan.ensures ∙ c.enum_told-in-Damaged-1.given.1) c.refused-in-Damaged.ensures
+    cleared_damaged _ _ (sym c.find_vlan.ensures ∙ c.in-Damaged.is) c.refused-in-Damaged.ensures

@@ -9,13 +9,13 @@ use Rattle.setting_calls.proofs.vlan.place_vlan.Goals as goal
 
 pub returns-in-At : goal.returns-in-At
 returns-in-At c =
-    placed_there _ _ _ (sym c.find_vlan.ensures ∙ c.entry-1.given.1) c.write_vlan.ensures c.done.ensures
+    placed_there _ _ _ (sym c.find_vlan.ensures ∙ c.in-At.is) c.write_vlan.ensures c.done.ensures
 
 pub returns-in-Nowhere : goal.returns-in-Nowhere
 returns-in-Nowhere c =
-    placed_new _ _ (sym c.find_vlan.ensures ∙ c.enum_told-1.given.1) c.add_entry.ensures
+    placed_new _ _ (sym c.find_vlan.ensures ∙ c.in-Nowhere.is) c.add_entry.ensures
 
 pub returns-in-Damaged : goal.returns-in-Damaged
 unfolding refusal_number
 returns-in-Damaged c =
-    placed_damaged _ _ (sym c.find_vlan.ensures ∙ c.enum_told-in-Damaged-1.given.1) c.refused.ensures
+    placed_damaged _ _ (sym c.find_vlan.ensures ∙ c.in-Damaged.is) c.refused.ensures

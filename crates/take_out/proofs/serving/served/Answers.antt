@@ -12,12 +12,12 @@ returns-then-not-in_range c = word_out c.args.n c.args.port c.args.links.now (sy
 
 pub returns-in_default : goal.returns-in_default
 returns-in_default c =
-    none_waits c.args.n c.args.port c.args.links.now (sym c.in_range.ensures ∙ c.if-not-in_range.false) (sym c.highest_waiting-highest.ensures ∙ c.enum_told-1.given.1)
+    none_waits c.args.n c.args.port c.args.links.now (sym c.in_range.ensures ∙ c.if-not-in_range.false) (sym c.highest_waiting-highest.ensures ∙ (search rules))
 
 pub returns-then-n-cell : goal.returns-then-n-cell
 returns-then-n-cell c =
-    oldest_out c.args.n c.args.port c.args.links.now (sym c.in_range.ensures ∙ c.if-not-in_range.false) _ _ (sym c.highest_waiting-highest.ensures ∙ c.highest-1.given.1) c.oldest_word-cell.ensures c.if-n-cell.true
+    oldest_out c.args.n c.args.port c.args.links.now (sym c.in_range.ensures ∙ c.if-not-in_range.false) _ _ (sym c.highest_waiting-highest.ensures ∙ c.in-Queue.is) c.oldest_word-cell.ensures c.if-n-cell.true
 
 pub returns : goal.returns
 returns c =
-    oldest_served c.args.n c.args.port c.args.links.now (sym c.in_range.ensures ∙ c.if-not-in_range.false) _ _ (sym c.highest_waiting-highest.ensures ∙ c.highest-1.given.1) c.oldest_word-cell.ensures c.if-n-cell.false
+    oldest_served c.args.n c.args.port c.args.links.now (sym c.in_range.ensures ∙ c.if-not-in_range.false) _ _ (sym c.highest_waiting-highest.ensures ∙ c.in-Queue.is) c.oldest_word-cell.ensures c.if-n-cell.false
