@@ -19,9 +19,9 @@ returns-then-is_damaged c =
 
 pub set_static-requires : goal.set_static-requires
 set_static-requires c = record {
-      found_in_bounds = found_inside _ _ c.whole_search-found.ensures (omega arith);
-      key_bound = omega arith;
-    }
+  found_in_bounds = found_inside _ _ c.whole_search-found.ensures (omega arith);
+  key_bound = omega arith;
+}
 
 pub returns : goal.returns
 returns c =

@@ -14,6 +14,10 @@ slice_bounds-result-end c = sym (length-take-le _ _ (omega (arith, c.take_into-a
 pub returns : goal.returns
 returns c =
     let told = c.take_into-answer in
-    let out = told.new.1.1.1.0 in
-    let long : length (take told.result.x out) ≡ told.result.x = length-take-le told.result.x out (omega (arith, told.ensures.1, told.auto)) in
-    (ap handed_back told.ensures.0, (refl, (long ∙ ap (λ (t : Answer × Memory). t.0.x) told.ensures.0, omega (arith, long, told.ensures.1))))
+    let out = told.new.out in
+    let long : length (take told.result.x out) ≡ told.result.x = length-take-le told.result.x out (omega (arith, told.ensures.x_in_bounds, told.auto)) in
+    record {
+      result_after = ap handed_back told.ensures.out_after;
+      ref_ptr_value = refl;
+      result_len = (long ∙ ap (λ (t : Answer × Memory). t.0.x) told.ensures.out_after, omega (arith, long, told.ensures.x_in_bounds));
+    }

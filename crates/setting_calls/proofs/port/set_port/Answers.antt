@@ -14,12 +14,11 @@ returns-then-port-gt-LAST_PORT c =
     long_enough _ _ _ _ (sym c.links_fit.ensures ∙ c.if-links_fit.true) (port_above _ _ _ _ c.if-port-gt-LAST_PORT.true c.refused.ensures)
 
 pub place_port-requires : goal.place_port-requires
-place_port-requires c =
-    (
-      fixed_part _ (sym c.links_fit.ensures ∙ c.if-links_fit.true),
-      omega arith,
-      port_range _ (sym c.port_in_range.ensures ∙ c.if-port_in_range.true),
-    )
+place_port-requires c = (
+  fixed_part _ (sym c.links_fit.ensures ∙ c.if-links_fit.true),
+  omega arith,
+  port_range _ (sym c.port_in_range.ensures ∙ c.if-port_in_range.true),
+)
 
 pub returns-then-port_in_range : goal.returns-then-port_in_range
 unfolding port_call port_refusals port_lines

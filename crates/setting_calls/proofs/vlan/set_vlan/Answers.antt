@@ -9,11 +9,10 @@ use borrow.Author.Rules.{rules}
 use Rattle.setting_calls.proofs.vlan.set_vlan.Goals as goal
 
 pub place_vlan-requires : goal.place_vlan-requires
-place_vlan-requires c =
-    (
-      fixed_part _ (sym c.links_fit.ensures ∙ c.if-links_fit.true),
-      vlan_range _ (sym c.vlan_in_range.ensures ∙ c.if-vlan_in_range.true),
-    )
+place_vlan-requires c = (
+  fixed_part _ (sym c.links_fit.ensures ∙ c.if-links_fit.true),
+  vlan_range _ (sym c.vlan_in_range.ensures ∙ c.if-vlan_in_range.true),
+)
 
 pub returns-then-vlan_in_range : goal.returns-then-vlan_in_range
 unfolding vlan_call vlan_refusals vlan_placed vlan_lines

@@ -14,6 +14,9 @@ pub returns-in_default : goal.returns-in_default
 returns-in_default c =
     none_waits c.args.n c.args.port c.args.links.now (sym c.in_range.ensures ∙ c.if-not-in_range.false) (sym c.highest_waiting-highest.ensures ∙ (search rules))
 
+pub oldest_word-cell-requires : goal.oldest_word-cell-requires
+oldest_word-cell-requires c = omega (arith, c.requires, (highest_waits _ _ (sym c.highest_waiting-highest.ensures ∙ c.in-Queue.is)).0)
+
 pub returns-then-n-cell : goal.returns-then-n-cell
 returns-then-n-cell c =
     oldest_out c.args.n c.args.port c.args.links.now (sym c.in_range.ensures ∙ c.if-not-in_range.false) _ _ (sym c.highest_waiting-highest.ensures ∙ c.in-Queue.is) c.oldest_word-cell.ensures c.if-n-cell.true

@@ -7,9 +7,9 @@ use Rattle.take_out.proofs.taking.finish.Goals as goal
 
 pub depart_from-requires : goal.depart_from-requires
 depart_from-requires c = record {
-      n_in_bounds = (omega arith, omega arith, omega arith);
-      links_value = (c.requires.links_value.0, c.requires.links_value.2, c.requires.links_value.1);
-    }
+  n_in_bounds = (omega arith, omega arith, omega arith);
+  links_value = (c.requires.links_value.0, c.requires.links_value.2, c.requires.links_value.1);
+}
 
 pub leave-requires : goal.leave-requires
 leave-requires c = omega (arith, c.requires.n_in_bounds, c.depart_from.auto.links, (leaves c.args.n c.args.port c.args.c c.args.links.now c.requires.links_value.0).below)

@@ -13,48 +13,58 @@ use Rattle.take_out.proofs.Takes.{can_send_lem, sent_is}
 use Rattle.departure.proofs.Copies.{Leaves, leaves}
 use Rattle.take_out.proofs.taking.send.Goals as goal
 
-both : (s : tie.Start) → (can_leave s.args.n s.args.port s.args.c s.args.links.now ≡ true) × (header_fits (stored_at s.args.cells.now s.args.c) s.args.port s.args.c s.args.links.now ≡ true)
-both s = can_send_lem s.args.cells.now s.args.n s.args.port s.args.c s.args.links.now s.requires.1.1
-
-leaves_now : (s : tie.Start) → Leaves s.args.n s.args.port s.args.c s.args.links.now
-leaves_now s = leaves s.args.n s.args.port s.args.c s.args.links.now (both s).0
-
-long_is : (s : tie.Start) → s.args.h.length ≡ (stored_at s.args.cells.now s.args.c).length
-long_is s = ap (λ (h : StoredHeader). h.length) s.requires.1.0
-
-few : (s : tie.Start) → s.args.h.length ≤ 4091
-few s = omega (arith, long_is s, (header (stored_at s.args.cells.now s.args.c) s.args.port s.args.c s.args.links.now (both s).1).long)
-
 pub is_plain-requires : goal.is_plain-requires
 is_plain-requires c = c.requires.h_value.2
 
 pub write_plain-last-requires : goal.write_plain-last-requires
 write_plain-last-requires c =
+    let both = can_send_lem c.args.cells.now c.args.n c.args.port c.args.c c.args.links.now c.requires.h_value.1 in
+    let leaves_now = leaves c.args.n c.args.port c.args.c c.args.links.now both.0 in
+    let long_is : c.args.h.length ≡ (stored_at c.args.cells.now c.args.c).length = ap (λ (h : StoredHeader). h.length) c.requires.h_value.0 in
     let plain : leaves_plain (stored_at c.args.cells.now c.args.c) (operation_of_port c.args.links.now c.args.port) ≡ true =
     rw (← c.requires.h_value.0) (c.is_plain.ensures c.if-is_plain.true) in
-    ((omega arith, omega arith, omega arith), ((leaves_now s).below, long_is s, (both s).1, plain))
+    record {
+      n_in_bounds = (omega arith, omega arith, omega arith);
+      c_lt_n = (leaves_now.below, long_is, both.1, plain);
+    }
 
 pub finish-requires : goal.finish-requires
-finish-requires c = record {
+finish-requires c =
+    let both = can_send_lem c.args.cells.now c.args.n c.args.port c.args.c c.args.links.now c.requires.h_value.1 in
+    let long_is : c.args.h.length ≡ (stored_at c.args.cells.now c.args.c).length = ap (λ (h : StoredHeader). h.length) c.requires.h_value.0 in
+    let few : c.args.h.length ≤ 4091 = omega (arith, long_is, (header (stored_at c.args.cells.now c.args.c) c.args.port c.args.c c.args.links.now both.1).long) in
+    record {
       n_in_bounds = (omega arith, omega arith, omega arith, omega arith);
-      links_value = ((both s).0, c.requires.h_value.3, c.write_plain-last.ensures.value, few s);
+      links_value = (both.0, c.requires.h_value.3, c.write_plain-last.ensures.value, few);
     }
 
 pub returns-then-is_plain : goal.returns-then-is_plain
 returns-then-is_plain c =
+    let both = can_send_lem c.args.cells.now c.args.n c.args.port c.args.c c.args.links.now c.requires.h_value.1 in
+    let long_is : c.args.h.length ≡ (stored_at c.args.cells.now c.args.c).length = ap (λ (h : StoredHeader). h.length) c.requires.h_value.0 in
+    let few : c.args.h.length ≤ 4091 = omega (arith, long_is, (header (stored_at c.args.cells.now c.args.c) c.args.port c.args.c c.args.links.now both.1).long) in
     record {
       out_after = sent_is c.args.cells.now c.args.n c.args.links.now c.args.port c.args.out.now c.args.queue c.args.c (omega (arith, c.requires.n_in_bounds)) _ _ _ _
           c.finish.ensures.value c.write_plain-last.ensures.out_after c.finish.ensures.links_after;
-      x_le_largest_result = rw c.finish.ensures.value (few s);
+      x_le_largest_result = rw c.finish.ensures.value few;
     }
 
 pub write_retagged-written-requires : goal.write_retagged-written-requires
-write_retagged-written-requires c = ((omega arith, omega arith, omega arith, omega arith), ((leaves_now s).below, long_is s, (both s).1))
+write_retagged-written-requires c =
+    let both = can_send_lem c.args.cells.now c.args.n c.args.port c.args.c c.args.links.now c.requires.h_value.1 in
+    let leaves_now = leaves c.args.n c.args.port c.args.c c.args.links.now both.0 in
+    let long_is : c.args.h.length ≡ (stored_at c.args.cells.now c.args.c).length = ap (λ (h : StoredHeader). h.length) c.requires.h_value.0 in
+    record {
+      n_in_bounds = (omega arith, omega arith, omega arith, omega arith);
+      c_lt_n = (leaves_now.below, long_is, both.1);
+    }
 
 pub finish-requires-2 : goal.finish-requires-2
-finish-requires-2 c = record {
+finish-requires-2 c =
+    let both = can_send_lem c.args.cells.now c.args.n c.args.port c.args.c c.args.links.now c.requires.h_value.1 in
+    record {
       n_in_bounds = (omega arith, omega arith, omega arith, omega arith);
-      links_value = ((both s).0, c.requires.h_value.3, c.write_retagged-written.ensures.long_le_largest_result.1, c.write_retagged-written.ensures.long_le_largest_result.0);
+      links_value = (both.0, c.requires.h_value.3, c.write_retagged-written.ensures.long_le_largest_result.1, c.write_retagged-written.ensures.long_le_largest_result.0);
     }
 
 pub returns : goal.returns
