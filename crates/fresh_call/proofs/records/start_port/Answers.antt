@@ -17,13 +17,13 @@ pub pack_operation-operation-requires : goal.pack_operation-operation-requires
 pack_operation-operation-requires c = (fresh_port_range _ c.fresh_port-settings.ensures).operation
 
 pub bounds-links-port-2 : goal.bounds-links-port-2
-bounds-links-port-2 c = simp length-set (omega (arith, c.fill.auto.0))
+bounds-links-port-2 c = simp length-set (omega (arith, c.fill.auto.links))
 
 pub fill-requires-2 : goal.fill-requires-2
-fill-requires-2 c = simp length-set (omega (arith, c.fill.auto.0))
+fill-requires-2 c = simp length-set (omega (arith, c.fill.auto.links))
 
 pub shape_of-links : goal.shape_of-links
-shape_of-links c = c.fill-2.auto.0 ∙ simp length-set c.fill.auto.0
+shape_of-links c = c.fill-2.auto.links ∙ simp length-set c.fill.auto.links
 
 pub returns : goal.returns
 returns c =

@@ -8,11 +8,11 @@ use Rattle.fresh_call.proofs.words.start_switch.Goals as goal
 
 pub fill-requires-2 : goal.fill-requires-2
 fill-requires-2 c =
-    simp length-set (omega (arith, c.fill.auto.0, c.start_front.auto.0))
+    simp length-set (omega (arith, c.fill.auto.links, c.start_front.auto.links))
 
 pub shape_of-links : goal.shape_of-links
 shape_of-links c =
-    c.fill-2.auto.0 ∙ simp length-set (c.fill.auto.0 ∙ c.start_front.auto.0)
+    c.fill-2.auto.links ∙ simp length-set (c.fill.auto.links ∙ c.start_front.auto.links)
 
 pub returns : goal.returns
 returns c =

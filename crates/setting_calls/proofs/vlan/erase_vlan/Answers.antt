@@ -7,6 +7,12 @@ use Rattle.setting_calls.proofs.VlanEnds.{cleared_there, cleared_missing, cleare
 use borrow.Author.Rules.{rules}
 use Rattle.setting_calls.proofs.vlan.erase_vlan.Goals as goal
 
+pub clear_vlan-requires-clause-fixed_words_in_bounds : goal.clear_vlan-requires-clause-fixed_words_in_bounds
+clear_vlan-requires-clause-fixed_words_in_bounds c = omega (arith, found_there _ _ _ (sym c.find_vlan.ensures ∙ c.in-At.is))
+
+pub clear_vlan-requires-clause-vlan_count_word_bound : goal.clear_vlan-requires-clause-vlan_count_word_bound
+clear_vlan-requires-clause-vlan_count_word_bound c = omega (arith, found_there _ _ _ (sym c.find_vlan.ensures ∙ c.in-At.is))
+
 pub returns-in-At : goal.returns-in-At
 returns-in-At c =
     cleared_there _ _ _ (sym c.find_vlan.ensures ∙ c.in-At.is) c.clear_vlan.ensures c.done.ensures

@@ -7,6 +7,9 @@ use Rattle.setting_calls.proofs.VlanEnds.{placed_there, placed_new, placed_damag
 use borrow.Author.Rules.{rules}
 use Rattle.setting_calls.proofs.vlan.place_vlan.Goals as goal
 
+pub write_vlan-requires : goal.write_vlan-requires
+write_vlan-requires c = omega (arith, found_there _ _ _ (sym c.find_vlan.ensures ∙ c.in-At.is))
+
 pub returns-in-At : goal.returns-in-At
 returns-in-At c =
     placed_there _ _ _ (sym c.find_vlan.ensures ∙ c.in-At.is) c.write_vlan.ensures c.done.ensures
