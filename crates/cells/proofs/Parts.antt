@@ -1,10 +1,10 @@
 -- Parts of lists: beginnings of beginnings, of two lists in a row, and of parts. Assumes nothing.
-use mathlib.Core.Path.{◌≡◌, sym, ap, ◌∙◌}
+use mathlib.Core.Path.{◌≡◌, sym, ◌∙◌}
 use mathlib.Core.List.{List, [], ◌∷◌, ◌++◌}
 use Prim.Native.Nat.{ℕ, zero, suc, ◌+◌, ◌-◌, ◌≤◌, min}
-use native.Mathlib.Nat.{add-zero, suc-add, zero-add, zero-min, min-zero, suc-min-suc, zero-sub, sub-zero, suc-sub-suc}
+use native.Mathlib.Nat.{zero-min, min-zero, suc-min-suc, zero-sub, sub-zero, suc-sub-suc}
 use native.Mathlib.Omega.{arith}
-use lib.ListN.{length, take, drop, length-take, length-drop}
+use lib.ListN.{length, take, drop, length-drop}
 use lib.Seq.{drop-drop, take_all}
 
 pub take_min : (k : ℕ) (l : List ℕ) → take (min k (length l)) l ≡ take k l

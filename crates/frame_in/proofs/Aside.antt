@@ -1,13 +1,13 @@
 -- Counters stand aside from cells and queues: a frame is stored and queued the same whether they go up before or behind it.
 -- Assumes nothing.
-use Prim.Native.Nat.{ℕ, zero, suc, ◌+◌, ◌-◌, ◌*◌, ◌%◌, ◌^◌, ◌<◌, ◌≤◌}
+use Prim.Native.Nat.{ℕ, zero, suc, ◌+◌, ◌-◌, ◌*◌, ◌<◌, ◌≤◌}
 use mathlib.Core.Path.{◌≡◌, refl, sym, ap, ◌∙◌}
 use mathlib.Core.Bool.{Bool, true, false}
 use mathlib.Core.List.{List, [], ◌∷◌, ◌++◌}
 use native.Mathlib.Omega.{arith}
-use lib.ListN.{length, get_or, set}
+use lib.ListN.{length}
 use lib.Seq.{get_or-set_other}
-use Rattle.rules.specs.Choice.{if◌then◌else◌, Each, nobody, also}
+use Rattle.rules.specs.Choice.{Each, nobody, also}
 use Rattle.rules.specs.Cells.{cells}
 use Rattle.rules.specs.Arguments.{bit}
 use Rattle.rules.specs.Counters.{counter_number}

@@ -8,7 +8,6 @@ use mathlib.Core.Option.{Option, none, some}
 use native.Mathlib.Omega.{arith}
 use lib.Dec.{eqb}
 use lib.ListN.{length}
-use lib.ListN as ListN
 use borrow.Author.Tests.{ltb-false}
 use Rattle.rules.specs.Choice.{sift, among, Each, nobody, also}
 use Rattle.rules.specs.Lines.{first}

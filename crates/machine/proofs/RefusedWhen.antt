@@ -12,7 +12,7 @@ use borrow.Author.Tests.{leb-true, leb-false, le-leb, lt-leb, ltb-true, ltb-fals
 use Rattle.rules.specs.Lines.{line, first}
 use Rattle.rules.specs.Tags.{is_group}
 use Rattle.rules.specs.Settings.{is_there}
-use Rattle.rules.specs.Tables.{is_found, nowhere, at}
+use Rattle.rules.specs.Tables.{is_found, nowhere}
 use Rattle.rules.specs.Addresses.{Table, key, find, empty_for, no_place_for}
 use Rattle.rules.specs.Arguments.{is_vid, is_address, VlanNumbers, port_in_range, vlan_in_range}
 use Rattle.rules.specs.RangeTheorems.{VlanFits}

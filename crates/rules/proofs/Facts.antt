@@ -12,7 +12,6 @@ use Rattle.rules.specs.Cells.{cells}
 use Rattle.rules.specs.Tags.{Header, Tag, tags_of, destination}
 use Rattle.rules.specs.Operations.{header_at}
 use Rattle.rules.specs.Settings.{Vlan, Settings, is_there, vlan_of, or_default, assigned_vid, queue_pcp, state_for}
-use Rattle.rules.specs.Tables.{at}
 use Rattle.rules.specs.Addresses.{Entry, Table, LookUp, group, found, key, find, answered, look_up}
 use Rattle.rules.specs.PortTests.{is_chosen}
 use Rattle.rules.specs.Facts.{Packet, is_bpdu, facts_of}

@@ -1,5 +1,5 @@
 -- What a frame's facts come to. Assumes nothing.
-use mathlib.Core.Path.{◌≡◌, ap, ap₂}
+use mathlib.Core.Path.{ap, ap₂}
 use mathlib.Core.Bool.{Bool, ◌&&◌}
 use Rattle.rules.specs.Choice.{if◌then◌else◌}
 use Rattle.rules.specs.Addresses.{Table, after_look_up, is_no_place, learning_of, learn_by, learn}

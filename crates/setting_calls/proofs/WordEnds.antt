@@ -2,7 +2,7 @@
 use Prim.Native.Nat.{ℕ}
 use mathlib.Core.Path.{◌≡◌}
 use mathlib.Core.Bool.{Bool, true, false, not}
-use mathlib.Core.List.{List, [], ◌∷◌}
+use mathlib.Core.List.{List}
 use Rattle.rules.specs.Lines.{first}
 use Rattle.rules.specs.Refusals.{memory_damaged}
 use Rattle.layout.specs.declared.answers.Answer.{Answer}

@@ -3,7 +3,6 @@ use mathlib.Core.Path.{sym, ◌∙◌}
 use Rattle.rules.specs.Refusals.{refusal_number}
 use Rattle.layout.proofs.Fits.{addresses_fit_lem}
 use Rattle.address_calls.proofs.Outcomes.{age_short, age_damaged, age_done}
-use borrow.Author.Rules.{rules}
 use Rattle.address_calls.proofs.age.Goals as goal
 
 pub age-gone-requires : goal.age-gone-requires

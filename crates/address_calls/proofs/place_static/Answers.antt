@@ -3,7 +3,6 @@ use mathlib.Core.Path.{sym, ◌∙◌}
 use native.Mathlib.Omega.{arith}
 use Rattle.rules.specs.Refusals.{refusal_number}
 use Rattle.address_calls.proofs.Outcomes.{found_inside, static_full, static_damaged, static_placed_lem}
-use borrow.Author.Rules.{rules}
 use Rattle.address_calls.proofs.place_static.Goals as goal
 
 pub returns-then-is_full : goal.returns-then-is_full

@@ -3,7 +3,6 @@ use mathlib.Core.Path.{sym, ◌∙◌}
 use Rattle.rules.specs.Refusals.{refusal_number}
 use Rattle.layout.proofs.Fits.{addresses_fit_lem}
 use Rattle.address_calls.proofs.Outcomes.{key_numbers, remove_short, remove_range, remove_goes_on}
-use borrow.Author.Rules.{rules}
 use Rattle.address_calls.proofs.remove.Goals as goal
 
 pub key_of-requires : goal.key_of-requires

@@ -3,7 +3,6 @@ use mathlib.Core.Path.{sym, ◌∙◌}
 use native.Mathlib.Omega.{arith}
 use Rattle.rules.specs.Refusals.{refusal_number}
 use Rattle.address_calls.proofs.Outcomes.{found_inside, remove_missing, remove_damaged, remove_removed}
-use borrow.Author.Rules.{rules}
 use Rattle.address_calls.proofs.remove_placed.Goals as goal
 
 pub returns-then-is_missing : goal.returns-then-is_missing

@@ -4,7 +4,6 @@ use native.Mathlib.Omega.{arith}
 use Rattle.rules.specs.Refusals.{refusal_number}
 use Rattle.layout.proofs.Fits.{addresses_fit_lem}
 use Rattle.address_calls.proofs.Outcomes.{key_numbers, static_short, static_port, static_range, static_group, static_goes_on}
-use borrow.Author.Rules.{rules}
 use Rattle.address_calls.proofs.set_static.Goals as goal
 
 pub returns-then-port-gt-LAST_PORT : goal.returns-then-port-gt-LAST_PORT

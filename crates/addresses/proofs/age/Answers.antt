@@ -1,11 +1,8 @@
 -- `addresses::age` meets its contract.
-use Prim.Native.Nat.{◌-◌, ◌≤◌}
-use mathlib.Core.Path.{◌≡◌}
 use native.Mathlib.Omega.{arith}
-use borrow.Author.Rules.{rules}
-use lib.ListN.{length, get_or}
+use lib.ListN.{get_or}
 use Rattle.addresses.specs.Numbers.{entry_of}
-use Rattle.addresses.proofs.Passes.{goes_one, Turned, turned_none, turned_more, turned_all}
+use Rattle.addresses.proofs.Passes.{goes_one, turned_none, turned_more, turned_all}
 use Rattle.addresses.proofs.age.Goals as goal
 
 pub loop-place-init : goal.loop-place-init

@@ -1,11 +1,8 @@
 -- `addresses::age` meets its contract. The places below `place` have been aged, and those from it on are as they were.
 use Prim.Native.Nat.{◌-◌, ◌≤◌}
 use mathlib.Core.Path.{◌≡◌}
-use native.Mathlib.Omega.{arith}
-use borrow.Author.Rules.{rules}
-use lib.ListN.{length, get_or}
-use Rattle.addresses.specs.Numbers.{entry_of}
-use Rattle.addresses.proofs.Passes.{goes_one, Turned, turned_none, turned_more, turned_all}
+use lib.ListN.{length}
+use Rattle.addresses.proofs.Passes.{Turned}
 use Rattle.addresses.proofs.age.Given as goal
 
 abbrev pub invariant-loop-place : goal.invariant-loop-place

@@ -1,10 +1,6 @@
 -- `addresses::all_in_range` meets its contract.
-use Prim.Native.Nat.{◌-◌, ◌≤◌}
-use mathlib.Core.Path.{◌≡◌, refl, sym, ◌∙◌}
+use mathlib.Core.Path.{refl, sym, ◌∙◌}
 use native.Mathlib.Omega.{arith}
-use borrow.Author.Rules.{rules}
-use lib.ListN.{length, drop}
-use Rattle.addresses.specs.Numbers.{all_in_range}
 use Rattle.addresses.proofs.Passes.{range_next, range_bad, range_end}
 use Rattle.addresses.proofs.all_in_range.Goals as goal
 

@@ -1,11 +1,8 @@
 -- `addresses::all_in_range` meets its contract. The invariant: the places that are left decide.
 use Prim.Native.Nat.{◌-◌, ◌≤◌}
-use mathlib.Core.Path.{◌≡◌, refl, sym, ◌∙◌}
-use native.Mathlib.Omega.{arith}
-use borrow.Author.Rules.{rules}
+use mathlib.Core.Path.{◌≡◌}
 use lib.ListN.{length, drop}
 use Rattle.addresses.specs.Numbers.{all_in_range}
-use Rattle.addresses.proofs.Passes.{range_next, range_bad, range_end}
 use Rattle.addresses.proofs.all_in_range.Given as goal
 
 abbrev pub invariant-loop-place : goal.invariant-loop-place

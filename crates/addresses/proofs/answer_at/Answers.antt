@@ -1,6 +1,5 @@
 -- `addresses::answer_at` meets its contract.
 use Rattle.addresses.specs.Turns.{answer_at}
-use borrow.Author.Rules.{rules}
 use Rattle.addresses.proofs.answer_at.Goals as goal
 
 pub returns-then-parts_in_range : goal.returns-then-parts_in_range

@@ -1,7 +1,6 @@
 -- `addresses::first_empty` meets its contract.
 use borrow.Author.Tests.{eq-eqb, ne_eqb}
 use Rattle.addresses.specs.Turns.{empty_so_far}
-use borrow.Author.Rules.{rules}
 use Rattle.addresses.proofs.first_empty.Goals as goal
 
 pub returns-then-is_used : goal.returns-then-is_used

@@ -1,10 +1,9 @@
 -- `addresses::forget_all` meets its contract.
-use Prim.Native.Nat.{ℕ, ◌-◌, ◌≤◌}
+use Prim.Native.Nat.{ℕ}
 use native.Mathlib.Nat.{zero-add}
-use mathlib.Core.Path.{◌≡◌, refl, ◌∙◌}
+use mathlib.Core.Path.{refl, ◌∙◌}
 use native.Mathlib.Omega.{arith}
-use lib.ListN.{length, drop, replicate, length-set, length-replicate, drop_of_length-le}
-use lib.Seq.{sets}
+use lib.ListN.{length, replicate, length-set, length-replicate, drop_of_length-le}
 use Rattle.slices.proofs.Runs.{fill_turn, sets_whole}
 use Rattle.addresses.proofs.forget_all.Goals as goal
 

@@ -1,11 +1,8 @@
 -- `addresses::forget_all` meets its contract. The run that is left, stored into the memory as it is now, gives the result.
-use Prim.Native.Nat.{ℕ, ◌-◌, ◌≤◌}
-use native.Mathlib.Nat.{zero-add}
-use mathlib.Core.Path.{◌≡◌, refl, ◌∙◌}
-use native.Mathlib.Omega.{arith}
-use lib.ListN.{length, drop, replicate, length-set, length-replicate, drop_of_length-le}
+use Prim.Native.Nat.{◌-◌, ◌≤◌}
+use mathlib.Core.Path.{◌≡◌}
+use lib.ListN.{length, drop, replicate}
 use lib.Seq.{sets}
-use Rattle.slices.proofs.Runs.{fill_turn, sets_whole}
 use Rattle.addresses.proofs.forget_all.Given as goal
 
 abbrev pub invariant-loop-place : goal.invariant-loop-place

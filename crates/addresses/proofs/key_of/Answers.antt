@@ -2,7 +2,6 @@
 use mathlib.Core.Path.{refl}
 use native.Mathlib.Omega.{arith}
 use Rattle.rules.specs.Addresses.{key}
-use borrow.Author.Rules.{rules}
 use Rattle.addresses.proofs.key_of.Goals as goal
 
 pub returns : goal.returns

@@ -1,8 +1,6 @@
 -- `addresses::learn` meets its contract.
-use native.Mathlib.Omega.{arith}
 use mathlib.Core.Path.{sym, ◌∙◌}
 use Rattle.addresses.proofs.Writes.{found_inside, vacant_inside, learn_kept, learn_changed, learn_vacant, learn_full, learn_damaged}
-use borrow.Author.Rules.{rules}
 use Rattle.addresses.proofs.learn.Goals as goal
 
 pub bounds-addresses-place : goal.bounds-addresses-place

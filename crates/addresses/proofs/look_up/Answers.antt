@@ -2,7 +2,6 @@
 use mathlib.Core.Path.{sym, ap, ◌∙◌}
 use Prim.Native.Nat.{ℕ, ◌*◌}
 use Rattle.addresses.proofs.Search.{look_up_way}
-use borrow.Author.Rules.{rules}
 use Rattle.addresses.proofs.look_up.Goals as goal
 
 pub returns : goal.returns

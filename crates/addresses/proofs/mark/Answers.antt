@@ -1,5 +1,4 @@
 -- `addresses::mark` meets its contract.
-use native.Mathlib.Omega.{arith}
 use Rattle.addresses.proofs.Writes.{found_inside, mark_found, mark_unfound}
 use borrow.Author.Rules.{rules}
 use Rattle.addresses.proofs.mark.Goals as goal

@@ -2,7 +2,6 @@
 use native.Mathlib.Omega.{arith}
 use borrow.Author.Tests.{lt-ltb, le-ltb}
 use Rattle.addresses.specs.Turns.{place_at}
-use borrow.Author.Rules.{rules}
 use Rattle.addresses.proofs.place_at.Goals as goal
 
 pub returns-then-turn-lt-WAYS : goal.returns-then-turn-lt-WAYS

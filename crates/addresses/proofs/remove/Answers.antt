@@ -1,5 +1,4 @@
 -- `addresses::remove` meets its contract.
-use native.Mathlib.Omega.{arith}
 use Rattle.addresses.proofs.Writes.{found_inside, remove_found_lem, remove_unfound}
 use borrow.Author.Rules.{rules}
 use Rattle.addresses.proofs.remove.Goals as goal

@@ -1,7 +1,5 @@
 -- `addresses::set_static` meets its contract.
-use native.Mathlib.Omega.{arith}
 use Rattle.addresses.proofs.Writes.{found_inside, vacant_inside, static_found, static_vacant, static_full, static_damaged}
-use borrow.Author.Rules.{rules}
 use Rattle.addresses.proofs.set_static.Goals as goal
 
 pub bounds-addresses-place : goal.bounds-addresses-place

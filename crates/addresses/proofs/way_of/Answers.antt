@@ -1,11 +1,6 @@
 -- `addresses::way_of` meets its contract.
-use Prim.Native.Nat.{◌-◌, ◌≤◌}
-use mathlib.Core.Path.{◌≡◌, refl, sym, ◌∙◌}
+use mathlib.Core.Path.{refl, sym, ◌∙◌}
 use native.Mathlib.Omega.{arith}
-use lib.ListN.{drop}
-use borrow.Author.Rules.{rules}
-use Rattle.rules.specs.Addresses.{run}
-use Rattle.addresses.specs.Turns.{first_with}
 use Rattle.addresses.proofs.Search.{ways_end, ways_met, ways_next}
 use Rattle.addresses.proofs.way_of.Goals as goal
 

@@ -1,12 +1,9 @@
 -- `addresses::way_of` meets its contract. The invariant: the places that are left decide.
 use Prim.Native.Nat.{◌-◌, ◌≤◌}
-use mathlib.Core.Path.{◌≡◌, refl, sym, ◌∙◌}
-use native.Mathlib.Omega.{arith}
+use mathlib.Core.Path.{◌≡◌}
 use lib.ListN.{drop}
-use borrow.Author.Rules.{rules}
 use Rattle.rules.specs.Addresses.{run}
 use Rattle.addresses.specs.Turns.{first_with}
-use Rattle.addresses.proofs.Search.{ways_end, ways_met, ways_next}
 use Rattle.addresses.proofs.way_of.Given as goal
 
 abbrev pub invariant-ways : goal.invariant-ways

@@ -1,12 +1,9 @@
 -- `addresses::whole_search` meets its contract.
-use Prim.Native.Nat.{ℕ, ◌-◌, ◌≤◌}
+use Prim.Native.Nat.{ℕ}
 use mathlib.Core.Path.{◌≡◌, sym, ap, ◌∙◌}
 use native.Mathlib.Omega.{arith}
-use lib.ListN.{drop}
-use borrow.Author.Rules.{rules}
-use Rattle.rules.specs.Addresses.{bucket_of, places}
-use Rattle.addresses.specs.Search.{look_up}
-use Rattle.addresses.specs.Turns.{place_at, seek}
+use Rattle.rules.specs.Addresses.{bucket_of}
+use Rattle.addresses.specs.Turns.{place_at}
 use Rattle.addresses.proofs.Search.{look_up_seek, seek_end, seek_met, seek_next}
 use Rattle.addresses.proofs.whole_search.Goals as goal
 

@@ -1,13 +1,10 @@
 -- `addresses::whole_search` meets its contract. The invariant: the look-up is the search of the places that are left.
-use Prim.Native.Nat.{ℕ, ◌-◌, ◌≤◌}
-use mathlib.Core.Path.{◌≡◌, sym, ap, ◌∙◌}
-use native.Mathlib.Omega.{arith}
+use Prim.Native.Nat.{◌-◌, ◌≤◌}
+use mathlib.Core.Path.{◌≡◌}
 use lib.ListN.{drop}
-use borrow.Author.Rules.{rules}
-use Rattle.rules.specs.Addresses.{bucket_of, places}
+use Rattle.rules.specs.Addresses.{places}
 use Rattle.addresses.specs.Search.{look_up}
-use Rattle.addresses.specs.Turns.{place_at, seek}
-use Rattle.addresses.proofs.Search.{look_up_seek, seek_end, seek_met, seek_next}
+use Rattle.addresses.specs.Turns.{seek}
 use Rattle.addresses.proofs.whole_search.Given as goal
 
 abbrev pub invariant-search : goal.invariant-search

@@ -1,6 +1,5 @@
 -- `frame_in::fits` meets its contract.
 use mathlib.Core.Path.{sym, ◌∙◌}
-use borrow.Author.Rules.{rules}
 use Rattle.frame_in.proofs.fits.Goals as goal
 
 pub cells_fit-requires : goal.cells_fit-requires

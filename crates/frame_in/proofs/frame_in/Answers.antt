@@ -2,7 +2,6 @@
 use mathlib.Core.Path.{refl, sym, ◌∙◌}
 use native.Mathlib.Omega.{arith}
 use Rattle.frame_in.proofs.Refused.{lent_is, call_lengths, call_port, judged_damaged, judged_ready, judged_done, as_answered}
-use borrow.Author.Rules.{rules}
 use Rattle.frame_in.proofs.frame_in.Goals as goal
 
 pub returns-then-port-gt-LAST_PORT : goal.returns-then-port-gt-LAST_PORT

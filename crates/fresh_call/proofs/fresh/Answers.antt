@@ -2,7 +2,6 @@
 use mathlib.Core.Path.{sym, ◌∙◌}
 use Rattle.rules.specs.Refusals.{refusal_number}
 use Rattle.fresh_call.proofs.Ends.{fitting, fresh_short, fresh_done}
-use borrow.Author.Rules.{rules}
 use Rattle.fresh_call.proofs.fresh.Goals as goal
 
 pub start_links-requires : goal.start_links-requires

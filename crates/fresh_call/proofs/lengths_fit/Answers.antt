@@ -1,7 +1,6 @@
 -- `fresh_call::lengths_fit` meets its contract, which says what the code does.
 use mathlib.Core.Path.{refl}
 use Rattle.fresh_call.specs.Calls.{lengths_fit}
-use borrow.Author.Rules.{rules}
 use Rattle.fresh_call.proofs.lengths_fit.Goals as goal
 
 pub returns : goal.returns

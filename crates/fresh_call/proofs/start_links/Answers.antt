@@ -1,6 +1,5 @@
 -- `fresh_call::start_links` meets its contract: its four runs are all words.
 use Rattle.fresh_call.proofs.Runs.{fresh_run}
-use borrow.Author.Rules.{rules}
 use Rattle.fresh_call.proofs.start_links.Goals as goal
 
 pub returns : goal.returns

@@ -1,5 +1,4 @@
 -- `queues::all_in_range` meets its contract.
-use borrow.Author.Rules.{rules}
 use Rattle.queues.specs.Lists.{all_waiting_in_range}
 use Rattle.queues.proofs.all_in_range.Goals as goal
 

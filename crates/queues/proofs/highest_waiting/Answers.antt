@@ -1,5 +1,4 @@
 -- `queues::highest_waiting` meets its contract.
-use borrow.Author.Rules.{rules}
 use Rattle.queues.proofs.WaitingBits.{leading_few, highest_none, highest_some}
 use Rattle.queues.proofs.highest_waiting.Goals as goal
 

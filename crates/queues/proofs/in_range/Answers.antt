@@ -1,6 +1,5 @@
 -- `queues::in_range` meets its contract.
 use mathlib.Core.Path.{refl}
-use borrow.Author.Rules.{rules}
 use Rattle.queues.specs.Lists.{waiting_in_range}
 use Rattle.queues.proofs.in_range.Goals as goal
 

@@ -1,8 +1,5 @@
 -- `queues::is_youngest` meets its contract.
 use mathlib.Core.Path.{refl}
-use native.Mathlib.Omega.{arith}
-use borrow.Author.Rules.{rules}
-use Rattle.layout.specs.Places.{youngest_word}
 use Rattle.queues.specs.Lists.{is_youngest}
 use Rattle.queues.proofs.is_youngest.Goals as goal
 

@@ -1,6 +1,5 @@
 -- `queues::oldest` meets its contract.
 use mathlib.Core.Path.{ap, ◌∙◌}
-use borrow.Author.Rules.{rules}
 use Rattle.queues.specs.Lists.{clamped}
 use Rattle.queues.proofs.oldest.Goals as goal
 

@@ -1,7 +1,4 @@
 -- `queues::pop_oldest` meets its contract.
-use native.Mathlib.Omega.{arith}
-use borrow.Author.Rules.{rules}
-use Rattle.layout.specs.Places.{youngest_word}
 use Rattle.queues.proofs.Outcomes.{pop_last, pop_first}
 use Rattle.queues.proofs.pop_oldest.Goals as goal
 

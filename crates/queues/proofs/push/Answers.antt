@@ -2,7 +2,6 @@
 use mathlib.Core.Path.{sym, ◌∙◌}
 use native.Mathlib.Omega.{arith}
 use lib.ListN.{length-set}
-use borrow.Author.Rules.{rules}
 use Rattle.queues.proofs.Outcomes.{push_behind, push_first}
 use Rattle.queues.proofs.push.Goals as goal
 

@@ -3,7 +3,6 @@ use mathlib.Core.Path.{◌≡◌, refl, sym, ap, ◌∙◌}
 use native.Mathlib.Omega.{arith}
 use lib.ListN.{length, take}
 use lib.Seq.{length-take-le}
-use borrow.Author.Rules.{rules}
 use Rattle.layout.specs.declared.answers.Answer.{Answer}
 use Rattle.take_out.specs.Take.{Memory, handed_back}
 use Rattle.take_out.proofs.take.Goals as goal

@@ -3,8 +3,6 @@ use Prim.Native.Nat.{ℕ}
 use mathlib.Core.List.{List}
 use mathlib.Core.Path.{refl, sym, ap, ◌∙◌}
 use native.Mathlib.Omega.{arith}
-use borrow.Author.Tests.{not-true, not-false}
-use borrow.Author.Rules.{rules}
 use Rattle.rules.specs.Refusals.{refusal_number}
 use Rattle.layout.proofs.Fits.{links_fit_lem, cells_fit_lem}
 use Rattle.layout.specs.Lengths.{cell_count}

@@ -1,7 +1,6 @@
 -- `addresses::numbers::goes` meets its contract.
 use Rattle.rules.specs.Addresses.{goes}
 use Rattle.addresses.specs.Numbers.{entry_in, entry_of}
-use borrow.Author.Rules.{rules}
 use Rattle.addresses.proofs.numbers.goes.Goals as goal
 
 pub returns-then-is_static-is_marked : goal.returns-then-is_static-is_marked

@@ -1,6 +1,5 @@
 -- `addresses::numbers::in_range` meets its contract.
 use Rattle.addresses.specs.Numbers.{in_range}
-use borrow.Author.Rules.{rules}
 use Rattle.addresses.proofs.numbers.in_range.Goals as goal
 
 pub returns : goal.returns

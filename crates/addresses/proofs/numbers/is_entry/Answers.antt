@@ -1,6 +1,5 @@
 -- `addresses::numbers::is_entry` meets its contract.
 use Rattle.addresses.proofs.Matches.{match_whole}
-use borrow.Author.Rules.{rules}
 use Rattle.addresses.proofs.numbers.is_entry.Goals as goal
 
 pub returns : goal.returns

@@ -2,7 +2,6 @@
 use native.Mathlib.Omega.{arith}
 use Rattle.rules.specs.Addresses.{learned_entry}
 use Rattle.addresses.specs.Numbers.{bit, number_of}
-use borrow.Author.Rules.{rules}
 use Rattle.addresses.proofs.numbers.learned_number.Goals as goal
 
 pub returns : goal.returns

@@ -3,7 +3,6 @@ use mathlib.Core.Path.{sym, ◌∙◌}
 use native.Mathlib.Omega.{arith}
 use Rattle.addresses.proofs.Matches.{unmarked_even}
 use Rattle.addresses.specs.Changes.{marked_number}
-use borrow.Author.Rules.{rules}
 use Rattle.addresses.proofs.numbers.marked_number.Goals as goal
 
 pub returns-then-is_marked : goal.returns-then-is_marked

@@ -3,7 +3,6 @@ use mathlib.Core.Path.{sym, ◌∙◌}
 use native.Mathlib.Omega.{arith}
 use Rattle.addresses.proofs.Matches.{marked_odd}
 use Rattle.addresses.specs.Changes.{older_number}
-use borrow.Author.Rules.{rules}
 use Rattle.addresses.proofs.numbers.older_number.Goals as goal
 
 pub returns-then-is_static : goal.returns-then-is_static

@@ -2,7 +2,6 @@
 use native.Mathlib.Omega.{arith}
 use Rattle.rules.specs.Addresses.{static_entry}
 use Rattle.addresses.specs.Numbers.{bit, number_of}
-use borrow.Author.Rules.{rules}
 use Rattle.addresses.proofs.numbers.static_number.Goals as goal
 
 pub returns : goal.returns

@@ -1,6 +1,5 @@
 -- `arrival::candidates::candidates` meets its contract.
 use Rattle.arrival.specs.Candidates.{candidates_in}
-use borrow.Author.Rules.{rules}
 use Rattle.arrival.proofs.candidates.candidates.Goals as goal
 
 pub returns : goal.returns

@@ -2,7 +2,6 @@
 use mathlib.Core.Path.{sym, ap, ◌∙◌}
 use Rattle.arrival.proofs.CandidateTests.{destination_group, destination_single}
 use Rattle.addresses.specs.Search.{look_up}
-use borrow.Author.Rules.{rules}
 use Rattle.arrival.proofs.candidates.destination_look_up.Goals as goal
 
 pub returns-then-is_group : goal.returns-then-is_group

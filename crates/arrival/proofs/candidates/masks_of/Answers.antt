@@ -1,6 +1,5 @@
 -- `arrival::candidates::masks_of` meets its contract.
 use Rattle.arrival.specs.Candidates.{masks_of}
-use borrow.Author.Rules.{rules}
 use Rattle.arrival.proofs.candidates.masks_of.Goals as goal
 
 pub returns : goal.returns

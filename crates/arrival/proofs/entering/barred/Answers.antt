@@ -1,7 +1,6 @@
 -- `arrival::entering::barred` meets its contract.
 use mathlib.Core.Path.{sym, ◌∙◌}
 use Rattle.arrival.proofs.Arrivals.{bar_tags, own_bars}
-use borrow.Author.Rules.{rules}
 use Rattle.arrival.proofs.entering.barred.Goals as goal
 
 pub returns-then-bars : goal.returns-then-bars

@@ -1,7 +1,6 @@
 -- `arrival::entering::early` meets its contract.
 use mathlib.Core.Path.{sym, ◌∙◌}
 use Rattle.arrival.proofs.Arrivals.{early_short, early_long, early_group, early_none}
-use borrow.Author.Rules.{rules}
 use Rattle.arrival.proofs.entering.early.Goals as goal
 
 pub returns-then-frame-lt-SHORTEST : goal.returns-then-frame-lt-SHORTEST

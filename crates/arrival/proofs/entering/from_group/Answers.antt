@@ -1,7 +1,6 @@
 -- `arrival::entering::from_group` meets its contract.
 use native.Mathlib.Omega.{arith}
 use Rattle.arrival.proofs.Arrivals.{group_first}
-use borrow.Author.Rules.{rules}
 use Rattle.arrival.proofs.entering.from_group.Goals as goal
 
 pub returns : goal.returns

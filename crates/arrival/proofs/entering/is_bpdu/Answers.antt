@@ -2,7 +2,6 @@
 use mathlib.Core.Path.{sym, ◌∙◌}
 use native.Mathlib.Omega.{arith}
 use Rattle.arrival.proofs.Arrivals.{bpdu_first, bpdu_address_lem, another_address}
-use borrow.Author.Rules.{rules}
 use Rattle.arrival.proofs.entering.is_bpdu.Goals as goal
 
 pub returns-then-frame-ne-BPDU_FIRST : goal.returns-then-frame-ne-BPDU_FIRST

@@ -2,7 +2,6 @@
 use mathlib.Core.Path.{◌∙◌}
 use Rattle.settings.specs.States.{state_in}
 use Rattle.arrival.proofs.Arrivals.{untagged_told, tagged_told}
-use borrow.Author.Rules.{rules}
 use Rattle.arrival.proofs.entering.told_by.Goals as goal
 
 pub returns-then-tags-eq0 : goal.returns-then-tags-eq0

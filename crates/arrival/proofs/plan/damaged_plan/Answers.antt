@@ -1,5 +1,4 @@
 -- `arrival::plan::damaged_plan` meets its contract.
-use borrow.Author.Rules.{rules}
 use Rattle.arrival.proofs.plan.damaged_plan.Goals as goal
 
 pub returns : goal.returns

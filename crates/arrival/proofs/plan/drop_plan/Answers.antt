@@ -1,7 +1,6 @@
 -- `arrival::plan::drop_plan` meets its contract.
 use mathlib.Core.Path.{ap, ◌∙◌}
 use Rattle.arrival.specs.Plans.{lesson_plan}
-use borrow.Author.Rules.{rules}
 use Rattle.arrival.proofs.plan.drop_plan.Goals as goal
 
 pub returns : goal.returns

@@ -1,5 +1,4 @@
 -- `arrival::plan::lesson_plan` meets its contract.
-use borrow.Author.Rules.{rules}
 use Rattle.arrival.proofs.plan.lesson_plan.Goals as goal
 
 pub returns : goal.returns

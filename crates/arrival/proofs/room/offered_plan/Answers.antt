@@ -3,7 +3,6 @@ use Prim.Native.Nat.{ℕ}
 use mathlib.Core.Path.{sym, ap, ◌∙◌}
 use Rattle.cells.specs.Free.{room_for}
 use Rattle.arrival.proofs.RoomOutcomes.{none_left, room_damaged, room_none, room_enough, queues_damaged}
-use borrow.Author.Rules.{rules}
 use Rattle.arrival.proofs.room.offered_plan.Goals as goal
 
 pub returns-then-left-eq0 : goal.returns-then-left-eq0

@@ -1,12 +1,10 @@
 -- `cells::bytes::load_rest` meets its contract. The invariant: what is left to read, written to `out` as it is now, gives the result. The measure is how many bytes are left.
-use mathlib.Core.Path.{◌≡◌, refl, ◌∙◌}
+use mathlib.Core.Path.{◌≡◌}
 use Prim.Native.Nat.{◌-◌, ◌<◌}
 use lib.ListN.{length, take}
 use lib.Seq.{sets}
 use Rattle.cells.specs.Chains.{follow, walk}
 use Rattle.cells.specs.Bytes.{cells_for, load_cells}
-use Rattle.cells.proofs.Turns.{walk_goes_on, load_goes_on, walk_ends, load_ends}
-use native.Mathlib.Omega.{arith}
 use Rattle.cells.proofs.bytes.load_rest.Given as goal
 
 abbrev pub invariant-loop-done : goal.invariant-loop-done

@@ -4,7 +4,6 @@ use Prim.Native.Nat.{◌+◌, ◌*◌, ◌≤◌}
 use lib.ListN.{length}
 use Rattle.cells.proofs.Turns.{walk_short, whole_walk, whole_short, whole_long}
 use native.Mathlib.Omega.{arith}
-use borrow.Author.Rules.{rules}
 use Rattle.cells.proofs.bytes.load_whole.Goals as goal
 
 pub returns-then-long-le-FIRST_PART : goal.returns-then-long-le-FIRST_PART

@@ -7,7 +7,6 @@ use Rattle.cells.specs.Stored.{stored_bytes}
 use Rattle.cells.proofs.Headers.{stored_length}
 use Rattle.cells.proofs.Turns.{store_short, store_long}
 use native.Mathlib.Omega.{arith}
-use borrow.Author.Rules.{rules}
 use Rattle.cells.proofs.bytes.store.Goals as goal
 
 pub returns-then-frame-le-FIRST_PART : goal.returns-then-frame-le-FIRST_PART

@@ -1,12 +1,8 @@
 -- `cells::bytes::store_rest` meets its contract. The invariant: what is left to store, stored into the cells as they are now, gives the result. The measure is how many bytes are left.
-use mathlib.Core.Path.{◌≡◌, refl, ap, ◌∙◌}
-use mathlib.Core.List.{List}
-use Prim.Native.Nat.{ℕ, ◌-◌, ◌<◌}
+use mathlib.Core.Path.{◌≡◌}
+use Prim.Native.Nat.{◌-◌, ◌<◌}
 use lib.ListN.{length, drop}
-use Rattle.cells.specs.Chains.{next_in}
 use Rattle.cells.specs.Bytes.{cells_for, store_from}
-use Rattle.cells.proofs.Turns.{store_goes_on, store_ends}
-use native.Mathlib.Omega.{arith}
 use Rattle.cells.proofs.bytes.store_rest.Given as goal
 
 abbrev pub invariant-loop-done : goal.invariant-loop-done

@@ -1,7 +1,5 @@
 -- `cells::chains::walk` meets its contract.
 use mathlib.Core.Path.{◌≡◌, refl, sym, ◌∙◌}
-use Prim.Native.Nat.{◌<◌}
-use Rattle.cells.specs.Chains.{walk}
 use Rattle.cells.proofs.Steps.{walk_cons}
 use native.Mathlib.Omega.{arith}
 use Rattle.cells.proofs.chains.walk.Goals as goal

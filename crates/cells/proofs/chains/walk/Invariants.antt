@@ -1,9 +1,7 @@
 -- `cells::chains::walk` meets its contract. The invariant: the walk over the cells that are left ends where the walk does. The measure is how many are left.
-use mathlib.Core.Path.{◌≡◌, refl, sym, ◌∙◌}
+use mathlib.Core.Path.{◌≡◌}
 use Prim.Native.Nat.{◌<◌}
 use Rattle.cells.specs.Chains.{walk}
-use Rattle.cells.proofs.Steps.{walk_cons}
-use native.Mathlib.Omega.{arith}
 use Rattle.cells.proofs.chains.walk.Given as goal
 
 abbrev pub invariant-loop-rest : goal.invariant-loop-rest

@@ -1,9 +1,6 @@
 -- `cells::free::can_take` meets its contract: each return has the tests that led there.
 use borrow.Author.Tests.{lt-leb, le-leb, lt-ltb, le-ltb}
-use Rattle.layout.specs.Places.{free_count_word, first_free_word}
 use Rattle.cells.specs.Free.{room_for}
-use native.Mathlib.Omega.{arith}
-use borrow.Author.Rules.{rules}
 use Rattle.cells.proofs.free.can_take.Goals as goal
 
 pub returns-then-n-free : goal.returns-then-n-free

@@ -1,13 +1,12 @@
 -- `cells::free::give_back` meets its contract: the test that it requires says that each place is in range.
 use mathlib.Core.Path.{◌≡◌, ap, ap₂, ◌∙◌}
 use mathlib.Core.List.{List}
-use Prim.Native.Nat.{ℕ, ◌+◌, ◌*◌, ◌/◌, ◌<◌}
+use Prim.Native.Nat.{ℕ, ◌+◌, ◌/◌}
 use lib.ListN.{set, length-set}
 use Rattle.layout.specs.Places.{next_word, free_count_word, first_free_word, frame_word}
 use Rattle.cells.specs.Free.{free_count, first_free, size_of, last_cell, given_back}
-use Rattle.cells.proofs.Moves.{Giving, giving, last_in}
+use Rattle.cells.proofs.Moves.{giving, last_in}
 use native.Mathlib.Omega.{arith}
-use borrow.Author.Rules.{rules}
 use Rattle.cells.proofs.free.give_back.Goals as goal
 
 written : ℕ → List ℕ → ℕ → ℕ → ℕ → List ℕ

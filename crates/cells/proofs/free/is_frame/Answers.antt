@@ -1,6 +1,5 @@
 -- `cells::free::is_frame` meets its contract.
 use Rattle.cells.proofs.Moves.{frame_range}
-use borrow.Author.Rules.{rules}
 use Rattle.cells.proofs.free.is_frame.Goals as goal
 
 pub returns : goal.returns

@@ -4,7 +4,6 @@ use Prim.Native.Nat.{ℕ, ◌-◌, ◌/◌}
 use Rattle.cells.specs.Chains.{walk}
 use Rattle.cells.proofs.Moves.{frame}
 use native.Mathlib.Omega.{arith}
-use borrow.Author.Rules.{rules}
 use Rattle.cells.proofs.free.last.Goals as goal
 
 pub overflow_sub-size : goal.overflow_sub-size

@@ -5,9 +5,8 @@ use Prim.Native.Nat.{ℕ, ◌+◌, ◌-◌, ◌*◌}
 use lib.ListN.{set, length-set}
 use Rattle.layout.specs.Places.{free_count_word, first_free_word, frame_word}
 use Rattle.cells.specs.Free.{free_count, first_free, taken}
-use Rattle.cells.proofs.Moves.{Taking, taking}
+use Rattle.cells.proofs.Moves.{taking}
 use native.Mathlib.Omega.{arith}
-use borrow.Author.Rules.{rules}
 use Rattle.cells.proofs.free.take_cells.Goals as goal
 
 written : ℕ → ℕ → List ℕ → ℕ → List ℕ

@@ -1,5 +1,4 @@
 -- `cells::stored::in_range` meets its contract.
-use borrow.Author.Rules.{rules}
 use Rattle.cells.specs.Stored.{stored_in_range}
 use Rattle.cells.proofs.stored.in_range.Goals as goal
 

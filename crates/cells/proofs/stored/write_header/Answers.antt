@@ -2,7 +2,6 @@
 use native.Mathlib.Omega.{arith}
 use lib.ListN.{length-set}
 use Rattle.cells.proofs.Headers.{header_run}
-use borrow.Author.Rules.{rules}
 use Rattle.cells.proofs.stored.write_header.Goals as goal
 
 pub bounds-cells-at-2 : goal.bounds-cells-at-2

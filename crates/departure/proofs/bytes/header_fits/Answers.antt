@@ -3,7 +3,6 @@ use Prim.Native.Nat.{◌/◌}
 use mathlib.Core.Path.{sym, ap, ◌∙◌}
 use Rattle.settings.specs.Operations.{is_operation_word}
 use Rattle.departure.proofs.Headers.{no_header, no_size, fits_exempt, fits_operation}
-use borrow.Author.Rules.{rules}
 use Rattle.departure.proofs.bytes.header_fits.Goals as goal
 
 pub returns-then-is_exempt : goal.returns-then-is_exempt

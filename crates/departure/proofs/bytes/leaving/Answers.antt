@@ -6,7 +6,6 @@ use Rattle.settings.specs.Operations.{operation_in}
 use Rattle.settings.proofs.OperationLaws.{stored_good}
 use Rattle.departure.specs.Frames.{operation_of_port}
 use Rattle.departure.proofs.Headers.{operation_at_lem, leaving_exempt, leaving_operated, operation_fits_lem}
-use borrow.Author.Rules.{rules}
 use Rattle.departure.proofs.bytes.leaving.Goals as goal
 
 pub returns-then-is_exempt : goal.returns-then-is_exempt

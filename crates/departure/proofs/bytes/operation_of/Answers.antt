@@ -1,5 +1,4 @@
 -- `departure::bytes::operation_of` meets its contract: the word's parts are the operation's.
-use borrow.Author.Rules.{rules}
 use Rattle.tags.specs.Operations.{operation_is}
 use Rattle.settings.proofs.OperationLaws.{operation_parts}
 use Rattle.departure.proofs.bytes.operation_of.Goals as goal

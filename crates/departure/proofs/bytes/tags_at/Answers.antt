@@ -3,7 +3,6 @@ use Prim.Native.Nat.{ℕ, ◌+◌, ◌*◌, ◌-◌}
 use mathlib.Core.Path.{◌≡◌, ap, ◌∙◌}
 use native.Mathlib.Omega.{arith}
 use lib.ListN.{take, drop}
-use borrow.Author.Rules.{rules}
 use Rattle.rules.specs.Tags.{tags_of}
 use Rattle.departure.proofs.bytes.tags_at.Goals as goal
 

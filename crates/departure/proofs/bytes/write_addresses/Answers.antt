@@ -4,7 +4,6 @@ use mathlib.Core.Path.{◌≡◌, ap, ◌∙◌}
 use native.Mathlib.Omega.{arith}
 use lib.ListN.{take, drop}
 use lib.Seq.{sets}
-use borrow.Author.Rules.{rules}
 use Rattle.departure.proofs.bytes.write_addresses.Goals as goal
 
 pub returns : goal.returns

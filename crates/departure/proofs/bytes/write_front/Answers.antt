@@ -10,12 +10,11 @@ use Rattle.tags.proofs.Laws.{decoded_count, stack_bytes_length}
 use Rattle.tags.specs.Numbers.{stack_is}
 use Rattle.tags.proofs.Stacks.{stack_length}
 use Rattle.cells.proofs.Loads.{frame_first}
-use Rattle.cells.specs.Bytes.{front_in, frame_in}
-use Rattle.cells.specs.Free.{size_of, frame_cells}
+use Rattle.cells.specs.Bytes.{front_in}
+use Rattle.cells.specs.Free.{size_of}
 use Rattle.departure.specs.Frames.{stored_at, bytes_at, operation_of_port, leaving_of, written}
 use Rattle.departure.proofs.Retagged.{tags_front, frame_long, leaving_few, leaving_is, front_written}
-use Rattle.departure.proofs.Headers.{Header, header}
-use borrow.Author.Rules.{rules}
+use Rattle.departure.proofs.Headers.{header}
 use Rattle.departure.proofs.bytes.write_front.Goals as goal
 
 pub leaving-new-requires : goal.leaving-new-requires

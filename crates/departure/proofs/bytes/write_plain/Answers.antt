@@ -10,8 +10,7 @@ use Rattle.cells.specs.Bytes.{frame_in}
 use Rattle.departure.specs.Frames.{stored_at, written}
 use Rattle.departure.proofs.Plain.{last_is, plain_leaves, plain_written}
 use Rattle.departure.proofs.Retagged.{frame_long}
-use Rattle.departure.proofs.Headers.{Header, header}
-use borrow.Author.Rules.{rules}
+use Rattle.departure.proofs.Headers.{header}
 use Rattle.departure.proofs.bytes.write_plain.Goals as goal
 
 pub load_whole-requires : goal.load_whole-requires

@@ -7,8 +7,7 @@ use Rattle.cells.specs.Free.{size_of, frame_cells}
 use Rattle.cells.specs.Bytes.{frame_in}
 use Rattle.departure.specs.Frames.{stored_at, finished}
 use Rattle.departure.proofs.Plain.{last_is, finished_is}
-use Rattle.departure.proofs.Headers.{Header, header}
-use borrow.Author.Rules.{rules}
+use Rattle.departure.proofs.Headers.{header}
 use Rattle.departure.proofs.bytes.write_retagged.Goals as goal
 
 pub write_front-front-requires : goal.write_front-front-requires

@@ -1,10 +1,8 @@
 -- `departure::draining::all_can_leave` meets its contract.
-use Prim.Native.Nat.{ℕ, ◌-◌, ◌<◌}
-use mathlib.Core.Path.{◌≡◌, sym, ap, ◌∙◌}
+use Prim.Native.Nat.{ℕ, ◌-◌}
+use mathlib.Core.Path.{sym, ap, ◌∙◌}
 use native.Mathlib.Omega.{arith}
-use borrow.Author.Rules.{rules}
-use borrow.Author.Tests.{not-true, not-false}
-use Rattle.departure.specs.Draining.{all_can_leave, list_from_oldest}
+use Rattle.departure.specs.Draining.{all_can_leave}
 use Rattle.departure.proofs.Drains.{rest_from, rest_none, rest_bad, rest_last, rest_next}
 use Rattle.departure.proofs.draining.all_can_leave.Goals as goal
 

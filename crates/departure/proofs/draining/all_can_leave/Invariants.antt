@@ -1,11 +1,8 @@
 -- `departure::draining::all_can_leave` meets its contract: one frame a turn.
-use Prim.Native.Nat.{ℕ, ◌-◌, ◌<◌}
-use mathlib.Core.Path.{◌≡◌, sym, ap, ◌∙◌}
-use native.Mathlib.Omega.{arith}
-use borrow.Author.Rules.{rules}
-use borrow.Author.Tests.{not-true, not-false}
+use Prim.Native.Nat.{◌<◌}
+use mathlib.Core.Path.{◌≡◌}
 use Rattle.departure.specs.Draining.{all_can_leave, list_from_oldest}
-use Rattle.departure.proofs.Drains.{rest_from, rest_none, rest_bad, rest_last, rest_next}
+use Rattle.departure.proofs.Drains.{rest_from}
 use Rattle.departure.proofs.draining.all_can_leave.Given as goal
 
 abbrev pub invariant-loop-rest : goal.invariant-loop-rest

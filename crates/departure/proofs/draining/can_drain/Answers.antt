@@ -1,7 +1,6 @@
 -- `departure::draining::can_drain` meets its contract.
 use mathlib.Core.Path.{sym, ◌∙◌}
 use Rattle.departure.proofs.Drains.{tests_waiting, tests_nothing}
-use borrow.Author.Rules.{rules}
 use Rattle.departure.proofs.draining.can_drain.Goals as goal
 
 pub returns-then-waits : goal.returns-then-waits

@@ -1,6 +1,5 @@
 -- `departure::draining::can_drain_all` meets its contract.
 use Rattle.departure.specs.Draining.{can_drain_all}
-use borrow.Author.Rules.{rules}
 use Rattle.departure.proofs.draining.can_drain_all.Goals as goal
 
 pub returns : goal.returns

@@ -1,6 +1,5 @@
 -- `departure::draining::drain_all` meets its contract.
 use Rattle.departure.proofs.Drains.{all_is}
-use borrow.Author.Rules.{rules}
 use Rattle.departure.proofs.draining.drain_all.Goals as goal
 
 pub returns : goal.returns

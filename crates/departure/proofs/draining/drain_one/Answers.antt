@@ -1,6 +1,5 @@
 -- `departure::draining::drain_one` meets its contract.
 use Rattle.departure.proofs.Drains.{one_is}
-use borrow.Author.Rules.{rules}
 use Rattle.departure.proofs.draining.drain_one.Goals as goal
 
 pub returns : goal.returns

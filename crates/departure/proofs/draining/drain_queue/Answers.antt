@@ -1,11 +1,7 @@
 -- `departure::draining::drain_queue` meets its contract.
-use Prim.Native.Nat.{◌-◌}
-use mathlib.Core.Path.{◌≡◌, refl, sym, ◌∙◌}
+use mathlib.Core.Path.{refl, sym, ◌∙◌}
 use native.Mathlib.Omega.{arith}
-use lib.ListN.{length}
-use borrow.Author.Rules.{rules}
-use borrow.Author.Tests.{not-true, not-false}
-use Rattle.departure.proofs.Drains.{Done, done_none, done_next, done_stop, done_end}
+use Rattle.departure.proofs.Drains.{done_none, done_next, done_stop, done_end}
 use Rattle.departure.proofs.draining.drain_queue.Goals as goal
 
 pub loop-turn-init : goal.loop-turn-init

@@ -1,11 +1,8 @@
 -- `departure::draining::drain_queue` meets its contract: one copy a turn.
 use Prim.Native.Nat.{◌-◌}
-use mathlib.Core.Path.{◌≡◌, refl, sym, ◌∙◌}
-use native.Mathlib.Omega.{arith}
+use mathlib.Core.Path.{◌≡◌}
 use lib.ListN.{length}
-use borrow.Author.Rules.{rules}
-use borrow.Author.Tests.{not-true, not-false}
-use Rattle.departure.proofs.Drains.{Done, done_none, done_next, done_stop, done_end}
+use Rattle.departure.proofs.Drains.{Done}
 use Rattle.departure.proofs.draining.drain_queue.Given as goal
 
 abbrev pub invariant-loop-turn : goal.invariant-loop-turn

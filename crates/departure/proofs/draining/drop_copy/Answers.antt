@@ -1,7 +1,6 @@
 -- `departure::draining::drop_copy` meets its contract.
 use mathlib.Core.Path.{sym, ◌∙◌}
 use native.Mathlib.Omega.{arith}
-use borrow.Author.Rules.{rules}
 use Rattle.departure.proofs.Drains.{dropped_good, dropped_bad}
 use Rattle.departure.proofs.draining.drop_copy.Goals as goal
 

@@ -2,7 +2,6 @@
 use mathlib.Core.Path.{sym, ◌∙◌}
 use native.Mathlib.Omega.{arith}
 use Rattle.departure.proofs.Copies.{no_cell, no_frame, no_copy, room_asked, waits_here, not_here}
-use borrow.Author.Rules.{rules}
 use Rattle.departure.proofs.leaving.can_leave.Goals as goal
 
 pub returns-then-n-c : goal.returns-then-n-c

@@ -1,7 +1,6 @@
 -- `departure::leaving::depart` meets its contract.
 use native.Mathlib.Omega.{arith}
-use Rattle.departure.proofs.Copies.{Leaves, leaves, left_here}
-use borrow.Author.Rules.{rules}
+use Rattle.departure.proofs.Copies.{leaves, left_here}
 use Rattle.departure.proofs.leaving.depart.Goals as goal
 
 pub last-last-requires : goal.last-last-requires

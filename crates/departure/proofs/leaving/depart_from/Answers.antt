@@ -3,8 +3,7 @@ use mathlib.Core.Path.{ap, ◌∙◌}
 use native.Mathlib.Omega.{arith}
 use lib.ListN.{set}
 use Rattle.layout.specs.Places.{frame_word}
-use Rattle.departure.proofs.Copies.{Leaves, leaves, departed_last, departed_other, left_alone, none_left, some_left}
-use borrow.Author.Rules.{rules}
+use Rattle.departure.proofs.Copies.{leaves, departed_last, departed_other, left_alone, none_left, some_left}
 use Rattle.departure.proofs.leaving.depart_from.Goals as goal
 
 pub give_back-requires : goal.give_back-requires

@@ -1,8 +1,6 @@
 -- `departure::leaving::has_room` meets its contract.
-use Prim.Native.Nat.{◌/◌}
-use mathlib.Core.Path.{◌≡◌, ◌∙◌}
+use mathlib.Core.Path.{◌∙◌}
 use native.Mathlib.Omega.{arith}
-use Rattle.cells.specs.Free.{size_of}
 use Rattle.departure.proofs.Copies.{left_size, none_left, some_left, last_copy, other_copy}
 use Rattle.departure.proofs.leaving.has_room.Goals as goal
 

@@ -1,7 +1,6 @@
 -- `departure::leaving::leave` meets its contract.
 use mathlib.Core.Path.{ap, ◌∙◌}
 use Rattle.layout.specs.Counters.{bumped}
-use borrow.Author.Rules.{rules}
 use Rattle.departure.proofs.leaving.leave.Goals as goal
 
 pub returns : goal.returns

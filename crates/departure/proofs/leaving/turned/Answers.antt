@@ -1,7 +1,6 @@
 -- `departure::leaving::turned` meets its contract.
 use mathlib.Core.Path.{ap}
 use lib.Bits.{bit_xor}
-use borrow.Author.Rules.{rules}
 use Rattle.departure.specs.Leaving.{turned}
 use Rattle.departure.proofs.Copies.{port_bit}
 use Rattle.departure.proofs.leaving.turned.Goals as goal

@@ -1,7 +1,6 @@
 -- `frame_in::carry::accept` meets its contract.
 use native.Mathlib.Omega.{arith}
 use Rattle.frame_in.proofs.Joins.{room_counted, accepted_is}
-use borrow.Author.Rules.{rules}
 use Rattle.frame_in.proofs.carry.accept.Goals as goal
 
 pub join-requires : goal.join-requires

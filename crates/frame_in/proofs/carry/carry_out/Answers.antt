@@ -1,6 +1,5 @@
 -- `frame_in::carry::carry_out` meets its contract.
 use Rattle.frame_in.proofs.Joins.{dropped_is}
-use borrow.Author.Rules.{rules}
 use Rattle.frame_in.proofs.carry.carry_out.Goals as goal
 
 pub returns : goal.returns

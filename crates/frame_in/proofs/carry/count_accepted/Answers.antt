@@ -1,7 +1,6 @@
 -- `frame_in::carry::count_accepted` meets its contract.
 use Rattle.rules.specs.Counters.{counter_number}
 use Rattle.frame_in.proofs.Carries.{counted_with_lem}
-use borrow.Author.Rules.{rules}
 use Rattle.frame_in.proofs.carry.count_accepted.Goals as goal
 
 pub returns : goal.returns

@@ -2,7 +2,6 @@
 use mathlib.Core.Path.{sym, ◌∙◌}
 use Rattle.frame_in.specs.Carried.{bump_at}
 use Rattle.frame_in.proofs.Each.{if_set_lem, if_clear}
-use borrow.Author.Rules.{rules}
 use Rattle.frame_in.proofs.carry.count_at.Goals as goal
 
 pub returns-then-bit : goal.returns-then-bit

@@ -1,6 +1,5 @@
 -- `frame_in::carry::count_dropped` meets its contract.
 use Rattle.frame_in.proofs.Carries.{falls_counted, counted_with_lem}
-use borrow.Author.Rules.{rules}
 use Rattle.frame_in.proofs.carry.count_dropped.Goals as goal
 
 pub returns : goal.returns

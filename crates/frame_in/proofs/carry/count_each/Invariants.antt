@@ -1,13 +1,10 @@
 -- `frame_in::carry::count_each` meets its contract. What is left to do, done on the memory as it is, gives the result.
-use Prim.Native.Nat.{ℕ, ◌+◌, ◌-◌, ◌≤◌}
-use mathlib.Core.Path.{◌≡◌, refl, sym, ap, ◌∙◌}
-use mathlib.Core.List.{List}
-use native.Mathlib.Omega.{arith}
-use borrow.Author.Rules.{rules}
+use Prim.Native.Nat.{◌-◌, ◌≤◌}
+use mathlib.Core.Path.{◌≡◌}
 use lib.ListN.{length}
 use Rattle.arrival.specs.Candidates.{ports_in}
 use Rattle.frame_in.specs.Carried.{each_port, bump_at}
-use Rattle.frame_in.proofs.Each.{ports_from, each_none, each_starts, each_turn, each_ends}
+use Rattle.frame_in.proofs.Each.{ports_from}
 use Rattle.frame_in.proofs.carry.count_each.Given as goal
 
 abbrev pub invariant-loop-port : goal.invariant-loop-port

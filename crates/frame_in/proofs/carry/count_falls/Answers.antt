@@ -1,7 +1,6 @@
 -- `frame_in::carry::count_falls` meets its contract.
 use mathlib.Core.Path.{sym, ◌∙◌}
 use Rattle.frame_in.proofs.Carries.{falls_none, falls_counted}
-use borrow.Author.Rules.{rules}
 use Rattle.frame_in.proofs.carry.count_falls.Goals as goal
 
 pub returns-then-all_stay : goal.returns-then-all_stay

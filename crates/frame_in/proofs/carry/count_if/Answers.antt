@@ -1,7 +1,6 @@
 -- `frame_in::carry::count_if` meets its contract.
 use mathlib.Core.Path.{◌∙◌}
 use Rattle.frame_in.proofs.Carries.{count_unlearned, count_learned}
-use borrow.Author.Rules.{rules}
 use Rattle.frame_in.proofs.carry.count_if.Goals as goal
 
 pub returns-then-unlearned : goal.returns-then-unlearned

@@ -1,6 +1,5 @@
 -- `frame_in::carry::drop` meets its contract.
 use Rattle.frame_in.proofs.Joins.{dropped_made}
-use borrow.Author.Rules.{rules}
 use Rattle.frame_in.proofs.carry.drop.Goals as goal
 
 pub returns : goal.returns

@@ -6,7 +6,6 @@ use Prim.Native.Nat.{ℕ}
 use lib.ListN.{length}
 use Rattle.rules.specs.Cells.{cells}
 use Rattle.cells.specs.Free.{first_free, room_for}
-use borrow.Author.Rules.{rules}
 use Rattle.frame_in.proofs.carry.join.Goals as goal
 
 pub store-after-requires : goal.store-after-requires

@@ -1,11 +1,9 @@
 -- `frame_in::carry::push_all` meets its contract.
-use Prim.Native.Nat.{ℕ, ◌+◌, ◌-◌, ◌≤◌}
-use mathlib.Core.Path.{◌≡◌, refl, sym, ap, ◌∙◌}
+use Prim.Native.Nat.{ℕ, ◌+◌}
+use mathlib.Core.Path.{refl, sym, ap, ◌∙◌}
 use mathlib.Core.List.{List}
 use native.Mathlib.Omega.{arith}
 use borrow.Author.Rules.{rules}
-use lib.ListN.{length}
-use Rattle.arrival.specs.Candidates.{ports_in}
 use Rattle.frame_in.specs.Carried.{each_port, enqueue_at}
 use Rattle.frame_in.proofs.Each.{ports_from, each_starts, each_turn, each_ends}
 use Rattle.frame_in.proofs.carry.push_all.Goals as goal

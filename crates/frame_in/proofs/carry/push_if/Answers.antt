@@ -3,8 +3,6 @@ use mathlib.Core.Path.{sym, ap, ◌∙◌}
 use Rattle.rules.specs.Counters.{counter_number}
 use Rattle.frame_in.specs.Carried.{bump_at, enqueue_at}
 use Rattle.frame_in.proofs.Each.{if_set_lem, if_clear}
-use native.Mathlib.Omega.{arith}
-use borrow.Author.Rules.{rules}
 use Rattle.frame_in.proofs.carry.push_if.Goals as goal
 
 pub returns-then-bit : goal.returns-then-bit

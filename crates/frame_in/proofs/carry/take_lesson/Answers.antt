@@ -1,6 +1,5 @@
 -- `frame_in::carry::take_lesson` meets its contract.
 use Rattle.frame_in.proofs.Carries.{lesson_taken, lesson_none}
-use borrow.Author.Rules.{rules}
 use Rattle.frame_in.proofs.carry.take_lesson.Goals as goal
 
 pub returns-then-lesson : goal.returns-then-lesson

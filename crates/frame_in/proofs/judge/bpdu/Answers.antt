@@ -1,7 +1,6 @@
 -- `frame_in::judge::bpdu` meets its contract.
 use mathlib.Core.Path.{refl, sym, ◌∙◌}
 use Rattle.frame_in.proofs.Steps.{switches_damaged, bpdu_offered}
-use borrow.Author.Rules.{rules}
 use Rattle.frame_in.proofs.judge.bpdu.Goals as goal
 
 pub returns-then-is_switches_word : goal.returns-then-is_switches_word

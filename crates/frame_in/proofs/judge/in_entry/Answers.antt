@@ -1,7 +1,6 @@
 -- `frame_in::judge::in_entry` meets its contract.
 use mathlib.Core.Path.{refl, sym, ◌∙◌}
 use Rattle.frame_in.proofs.Barring.{entry_damaged, nine, as_member}
-use borrow.Author.Rules.{rules}
 use Rattle.frame_in.proofs.judge.in_entry.Goals as goal
 
 pub member-requires : goal.member-requires

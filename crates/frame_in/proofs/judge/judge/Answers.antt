@@ -1,6 +1,5 @@
 -- `frame_in::judge::judge` meets its contract.
 use Rattle.frame_in.proofs.Steps.{early_judged, past_early}
-use borrow.Author.Rules.{rules}
 use Rattle.frame_in.proofs.judge.judge.Goals as goal
 
 pub returns-then-reason-gt0 : goal.returns-then-reason-gt0

@@ -3,7 +3,6 @@ use mathlib.Core.Path.{refl, sym, ◌∙◌}
 use native.Mathlib.Omega.{arith}
 use Rattle.frame_in.proofs.Lessons.{address_below, chosen_fits}
 use Rattle.frame_in.proofs.LookedUp.{gid_small, queue_small, destination_damaged, source_damaged, switches_damaged, as_tested}
-use borrow.Author.Rules.{rules}
 use Rattle.frame_in.proofs.judge.member.Goals as goal
 
 pub destination_look_up-destination-requires : goal.destination_look_up-destination-requires

@@ -1,7 +1,6 @@
 -- `frame_in::judge::ordinary` meets its contract.
 use mathlib.Core.Path.{sym, ◌∙◌}
 use Rattle.frame_in.proofs.Barring.{barred_judged, table_damaged, absent_judged, in_entry}
-use borrow.Author.Rules.{rules}
 use Rattle.frame_in.proofs.judge.ordinary.Goals as goal
 
 pub returns-then-arrival-gt0 : goal.returns-then-arrival-gt0

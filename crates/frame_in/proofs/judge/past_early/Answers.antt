@@ -2,7 +2,6 @@
 use mathlib.Core.Path.{refl, sym, ◌∙◌}
 use Rattle.settings.proofs.PortLaws.{vid_word}
 use Rattle.frame_in.proofs.Steps.{port_damaged, map_damaged, as_bpdu, no_bpdu}
-use borrow.Author.Rules.{rules}
 use Rattle.frame_in.proofs.judge.past_early.Goals as goal
 
 pub stored_default-requires : goal.stored_default-requires

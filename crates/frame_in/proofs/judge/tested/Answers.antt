@@ -1,6 +1,5 @@
 -- `frame_in::judge::tested` meets its contract.
 use Rattle.frame_in.proofs.LastRules.{ten, eleven, tested_offered}
-use borrow.Author.Rules.{rules}
 use Rattle.frame_in.proofs.judge.tested.Goals as goal
 
 pub returns-then-learning : goal.returns-then-learning

@@ -2,7 +2,6 @@
 use mathlib.Core.Path.{refl, sym, ◌∙◌}
 use Rattle.settings.proofs.PortLaws.{vid_word}
 use Rattle.frame_in.proofs.Steps.{states_damaged, as_ordinary}
-use borrow.Author.Rules.{rules}
 use Rattle.frame_in.proofs.judge.with_states.Goals as goal
 
 pub arrival_of-arrival-requires : goal.arrival_of-arrival-requires

@@ -1,7 +1,6 @@
 -- `fresh_call::cells::next_of` meets its contract, by the test.
 use borrow.Author.Tests.{lt-ltb, le-ltb}
 use Rattle.fresh_call.specs.Words.{fresh_next}
-use borrow.Author.Rules.{rules}
 use Rattle.fresh_call.proofs.cells.next_of.Goals as goal
 
 pub returns-then-cell-n : goal.returns-then-cell-n

@@ -3,7 +3,6 @@ use mathlib.Core.Path.{◌∙◌}
 use native.Mathlib.Omega.{arith}
 use lib.ListN.{length-set}
 use Rattle.fresh_call.proofs.Runs.{cell_run}
-use borrow.Author.Rules.{rules}
 use Rattle.fresh_call.proofs.cells.start_cell.Goals as goal
 
 pub fill-requires : goal.fill-requires

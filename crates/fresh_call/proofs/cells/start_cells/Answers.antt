@@ -1,12 +1,7 @@
 -- `fresh_call::cells::start_cells` meets its contract.
-use Prim.Native.Nat.{◌-◌, ◌≤◌}
-use mathlib.Core.Path.{◌≡◌, refl, ◌∙◌}
+use mathlib.Core.Path.{refl, ◌∙◌}
 use native.Mathlib.Omega.{arith}
 use native.Mathlib.Nat.{sub-zero}
-use lib.ListN.{length}
-use lib.Seq.{sets}
-use Rattle.layout.specs.Places.{next_word}
-use Rattle.fresh_call.specs.Words.{fresh_cells}
 use Rattle.fresh_call.proofs.Runs.{cells_turn, cells_end}
 use Rattle.fresh_call.proofs.cells.start_cells.Goals as goal
 

@@ -1,13 +1,10 @@
 -- `fresh_call::cells::start_cells` meets its contract: the cells that are left, written into link memory as it is now, give the result.
 use Prim.Native.Nat.{◌-◌, ◌≤◌}
-use mathlib.Core.Path.{◌≡◌, refl, ◌∙◌}
-use native.Mathlib.Omega.{arith}
-use native.Mathlib.Nat.{sub-zero}
+use mathlib.Core.Path.{◌≡◌}
 use lib.ListN.{length}
 use lib.Seq.{sets}
 use Rattle.layout.specs.Places.{next_word}
 use Rattle.fresh_call.specs.Words.{fresh_cells}
-use Rattle.fresh_call.proofs.Runs.{cells_turn, cells_end}
 use Rattle.fresh_call.proofs.cells.start_cells.Given as goal
 
 abbrev pub invariant-loop-cell : goal.invariant-loop-cell

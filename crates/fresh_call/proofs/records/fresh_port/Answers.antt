@@ -1,6 +1,5 @@
 -- `fresh_call::records::fresh_port` meets its contract.
 use Rattle.settings.specs.SettingsOf.{fresh_port}
-use borrow.Author.Rules.{rules}
 use Rattle.fresh_call.proofs.records.fresh_port.Goals as goal
 
 pub returns : goal.returns

@@ -1,6 +1,5 @@
 -- `fresh_call::records::fresh_vlan` meets its contract.
 use Rattle.settings.specs.SettingsOf.{fresh_vlan}
-use borrow.Author.Rules.{rules}
 use Rattle.fresh_call.proofs.records.fresh_vlan.Goals as goal
 
 pub returns : goal.returns

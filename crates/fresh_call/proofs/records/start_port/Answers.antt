@@ -1,7 +1,6 @@
 -- `fresh_call::records::start_port` meets its contract: the counters, the port's two words and the rest are one run.
 use mathlib.Core.Path.{ap, ◌∙◌}
 use native.Mathlib.Omega.{arith}
-use borrow.Author.Rules.{rules}
 use lib.ListN.{length-set}
 use Rattle.rules.specs.Arguments.{PortNumbers}
 use Rattle.settings.specs.Operations.{operation_word}

@@ -1,11 +1,6 @@
 -- `fresh_call::records::start_ports` meets its contract.
-use Prim.Native.Nat.{◌-◌, ◌≤◌}
-use mathlib.Core.Path.{◌≡◌, refl, ◌∙◌}
+use mathlib.Core.Path.{refl, ◌∙◌}
 use native.Mathlib.Omega.{arith}
-use lib.ListN.{length}
-use lib.Seq.{sets}
-use Rattle.layout.specs.Places.{port_record}
-use Rattle.fresh_call.specs.Words.{fresh_ports}
 use Rattle.fresh_call.proofs.Runs.{ports_turn, ports_end}
 use Rattle.fresh_call.proofs.records.start_ports.Goals as goal
 

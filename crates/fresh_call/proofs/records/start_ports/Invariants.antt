@@ -1,12 +1,10 @@
 -- `fresh_call::records::start_ports` meets its contract: the ports that are left, written into link memory as it is now, give the result.
 use Prim.Native.Nat.{◌-◌, ◌≤◌}
-use mathlib.Core.Path.{◌≡◌, refl, ◌∙◌}
-use native.Mathlib.Omega.{arith}
+use mathlib.Core.Path.{◌≡◌}
 use lib.ListN.{length}
 use lib.Seq.{sets}
 use Rattle.layout.specs.Places.{port_record}
 use Rattle.fresh_call.specs.Words.{fresh_ports}
-use Rattle.fresh_call.proofs.Runs.{ports_turn, ports_end}
 use Rattle.fresh_call.proofs.records.start_ports.Given as goal
 
 abbrev pub invariant-loop-port : goal.invariant-loop-port

@@ -1,7 +1,6 @@
 -- `fresh_call::records::start_vlans` meets its contract: two runs are one.
 use Rattle.fresh_call.proofs.Runs.{vlans_run}
 use native.Mathlib.Omega.{arith}
-use borrow.Author.Rules.{rules}
 use Rattle.fresh_call.proofs.FreshRanges.{fresh_vlan_range}
 use Rattle.fresh_call.proofs.records.start_vlans.Goals as goal
 

@@ -1,10 +1,8 @@
 -- `fresh_call::words::fill` meets its contract.
-use mathlib.Core.Path.{◌≡◌, refl, ◌∙◌}
-use Prim.Native.Nat.{◌+◌, ◌-◌, ◌≤◌}
+use mathlib.Core.Path.{refl, ◌∙◌}
 use native.Mathlib.Nat.{add-zero}
 use native.Mathlib.Omega.{arith}
-use lib.ListN.{length, drop, replicate, length-set, length-replicate, drop_of_length-le}
-use lib.Seq.{sets}
+use lib.ListN.{replicate, length-set, length-replicate, drop_of_length-le}
 use Rattle.slices.proofs.Runs.{fill_turn}
 use Rattle.fresh_call.specs.Words.{copies}
 use Rattle.fresh_call.proofs.words.fill.Goals as goal

@@ -1,12 +1,8 @@
 -- `fresh_call::words::fill` meets its contract: the run that is left, stored into link memory as it is now, gives the result.
-use mathlib.Core.Path.{◌≡◌, refl, ◌∙◌}
+use mathlib.Core.Path.{◌≡◌}
 use Prim.Native.Nat.{◌+◌, ◌-◌, ◌≤◌}
-use native.Mathlib.Nat.{add-zero}
-use native.Mathlib.Omega.{arith}
-use lib.ListN.{length, drop, replicate, length-set, length-replicate, drop_of_length-le}
+use lib.ListN.{length, drop, replicate}
 use lib.Seq.{sets}
-use Rattle.slices.proofs.Runs.{fill_turn}
-use Rattle.fresh_call.specs.Words.{copies}
 use Rattle.fresh_call.proofs.words.fill.Given as goal
 
 abbrev pub invariant-loop-i : goal.invariant-loop-i

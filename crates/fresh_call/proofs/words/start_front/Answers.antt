@@ -1,7 +1,6 @@
 -- `fresh_call::words::start_front` meets its contract: the stores are a run.
 use mathlib.Core.Path.{refl}
 use native.Mathlib.Omega.{arith}
-use borrow.Author.Rules.{rules}
 use lib.ListN.{length-set}
 use Rattle.fresh_call.specs.Words.{fresh_front}
 use Rattle.fresh_call.proofs.words.start_front.Goals as goal

@@ -1,7 +1,6 @@
 -- `fresh_call::words::start_switch` meets its contract: its runs are one.
 use mathlib.Core.Path.{◌∙◌}
 use native.Mathlib.Omega.{arith}
-use borrow.Author.Rules.{rules}
 use lib.ListN.{length-set}
 use Rattle.fresh_call.proofs.Runs.{switch_run}
 use Rattle.fresh_call.proofs.words.start_switch.Goals as goal

@@ -1,12 +1,6 @@
 -- `gufhrandi::handed::is_bytes` meets its contract: each element that is read is a byte, and past the end `getD` gives 0.
-use Prim.Native.Nat.{ℕ, ◌+◌, ◌-◌, ◌≤◌, ◌<◌}
-use mathlib.Core.Path.{◌≡◌}
-use mathlib.Core.List.{List}
-use native.Mathlib.Decide.{dec_lt}
-use native.Mathlib.Omega.{arith}
-use borrow.Author.Rules.{rules}
-use lib.ListN.{length, get_or, get_or-eq_default}
-use Rattle.rules.specs.Tags.{Bytes}
+use Prim.Native.Nat.{ℕ, ◌-◌, ◌≤◌, ◌<◌}
+use lib.ListN.{length, get_or}
 use Rattle.gufhrandi.proofs.handed.is_bytes.Given as goal
 
 abbrev pub invariant-loop-i : goal.invariant-loop-i

@@ -1,7 +1,6 @@
 -- `gufhrandi::perform::begin` meets its contract: it is the fresh call of the C library.
 use mathlib.Core.Path.{ap}
 use mathlib.Core.List.{[]}
-use borrow.Author.Rules.{rules}
 use Rattle.gufhrandi.specs.Runs.{on_all}
 use Rattle.gufhrandi.proofs.perform.begin.Goals as goal
 

@@ -1,5 +1,4 @@
 -- `gufhrandi::perform::on_addresses` meets its contract: each arm is the C function of its name.
-use borrow.Author.Rules.{rules}
 use Rattle.gufhrandi.specs.Runs.{run}
 use Rattle.gufhrandi.specs.Asked.{address_asked, address_run}
 use Rattle.gufhrandi.proofs.perform.on_addresses.Goals as goal

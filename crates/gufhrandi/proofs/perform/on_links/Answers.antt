@@ -1,5 +1,4 @@
 -- `gufhrandi::perform::on_links` meets its contract: each arm is the C function of its name.
-use borrow.Author.Rules.{rules}
 use Rattle.gufhrandi.specs.Runs.{run}
 use Rattle.gufhrandi.specs.Asked.{link_asked, link_run}
 use Rattle.gufhrandi.proofs.perform.on_links.Goals as goal

@@ -1,5 +1,4 @@
 -- `gufhrandi::perform::perform` meets its contract: in each arm `run` of the call asked is what its function promises.
-use borrow.Author.Rules.{rules}
 use Rattle.gufhrandi.specs.Runs.{run}
 use Rattle.gufhrandi.specs.Asked.{asked}
 use Rattle.gufhrandi.proofs.Running.{run_addresses, run_links}

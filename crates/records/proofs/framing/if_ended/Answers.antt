@@ -1,5 +1,4 @@
 -- `records::framing::if_ended` meets its contract, by its test.
-use mathlib.Core.Path.{sym}
 use Rattle.records.specs.Framing.{if_ended}
 use Rattle.records.proofs.framing.if_ended.Goals as goal
 

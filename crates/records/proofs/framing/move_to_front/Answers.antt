@@ -1,9 +1,8 @@
 -- `records::framing::move_to_front` meets its contract.
-use Prim.Native.Nat.{ℕ, ◌+◌, ◌-◌, ◌≤◌}
-use mathlib.Core.Path.{◌≡◌, refl, ◌∙◌}
+use Prim.Native.Nat.{◌+◌, ◌-◌, ◌≤◌}
+use mathlib.Core.Path.{refl, ◌∙◌}
 use native.Mathlib.Omega.{arith}
-use lib.ListN.{length, get_or, drop, length-set, drop_of_length-le}
-use lib.Seq.{sets}
+use lib.ListN.{length, length-set, drop_of_length-le}
 use Rattle.records.proofs.MoveLaws.{moved, moved_length, move_turn, move_keeps}
 use Rattle.records.proofs.framing.move_to_front.Goals as goal
 

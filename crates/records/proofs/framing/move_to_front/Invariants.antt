@@ -1,11 +1,10 @@
 -- `records::framing::move_to_front` meets its contract: the run that is left, stored into the buffer as it is now, gives the
 -- result, and no place from `i` on has changed.
-use Prim.Native.Nat.{ℕ, ◌+◌, ◌-◌, ◌≤◌}
-use mathlib.Core.Path.{◌≡◌, refl, ◌∙◌}
-use native.Mathlib.Omega.{arith}
-use lib.ListN.{length, get_or, drop, length-set, drop_of_length-le}
+use Prim.Native.Nat.{ℕ, ◌-◌, ◌≤◌}
+use mathlib.Core.Path.{◌≡◌}
+use lib.ListN.{length, get_or, drop}
 use lib.Seq.{sets}
-use Rattle.records.proofs.MoveLaws.{moved, moved_length, move_turn, move_keeps}
+use Rattle.records.proofs.MoveLaws.{moved}
 use Rattle.records.proofs.framing.move_to_front.Given as goal
 
 abbrev pub invariant-loop-i : goal.invariant-loop-i

@@ -1,6 +1,5 @@
 -- `records::framing::next_in` meets its contract: each return is one case of what comes next.
 use native.Mathlib.Omega.{arith}
-use borrow.Author.Rules.{rules}
 use Rattle.records.proofs.FramingLaws.{next_none, next_one_byte, next_length_under_two, next_cut, next_whole}
 use Rattle.records.proofs.framing.next_in.Goals as goal
 

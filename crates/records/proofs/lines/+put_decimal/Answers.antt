@@ -1,6 +1,5 @@
 -- `records::lines::put_decimal` meets its contract: the last digit stands behind those of a tenth.
 use native.Mathlib.Omega.{arith}
-use lib.ListN.{length-set}
 use Rattle.records.specs.Lines.{written}
 use Rattle.records.proofs.LineLaws.{decimal_one, decimal_more, decimal_one_length, decimal_more_length, written_place, written_byte}
 use Rattle.records.proofs.lines.+put_decimal.Goals as goal

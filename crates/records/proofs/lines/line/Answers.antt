@@ -1,6 +1,5 @@
 -- `records::lines::line` meets its contract: three texts, one behind the other.
 use native.Mathlib.Omega.{arith}
-use borrow.Author.Rules.{rules}
 use Rattle.records.specs.Lines.{line_of}
 use Rattle.records.proofs.LineLaws.{field_of_32, field_of_64, written_place, written_thrice}
 use Rattle.records.proofs.lines.line.Goals as goal

@@ -1,6 +1,5 @@
 -- `records::lines::put_field` meets its contract: one byte behind the digits.
 use native.Mathlib.Omega.{arith}
-use borrow.Author.Rules.{rules}
 use Rattle.records.specs.Lines.{field}
 use Rattle.records.proofs.LineLaws.{field_length, written_place, written_byte}
 use Rattle.records.proofs.lines.put_field.Goals as goal

@@ -1,6 +1,5 @@
 -- `records::lines::put_outcome` meets its contract: text behind text, for each outcome.
 use native.Mathlib.Omega.{arith}
-use borrow.Author.Rules.{rules}
 use Rattle.records.proofs.LineLaws.{field_of_32, written_place, written_twice, written_thrice, outcome_ok, outcome_refused}
 use Rattle.records.proofs.lines.put_outcome.Goals as goal
 

@@ -1,5 +1,4 @@
 -- `records::lines::put_text` meets its contract.
-use borrow.Author.Rules.{rules}
 use Rattle.records.specs.Lines.{written}
 use Rattle.records.proofs.lines.put_text.Goals as goal
 

@@ -1,5 +1,4 @@
 -- `records::reading::kind_of` meets its contract.
-use borrow.Author.Rules.{rules}
 use Rattle.records.specs.Reading.{kind_of}
 use Rattle.records.proofs.reading.kind_of.Goals as goal
 

@@ -1,5 +1,4 @@
 -- `records::requests::bad_record` meets its contract.
-use borrow.Author.Rules.{rules}
 use Rattle.rules.specs.Refusals.{refusal_number}
 use Rattle.records.proofs.requests.bad_record.Goals as goal
 

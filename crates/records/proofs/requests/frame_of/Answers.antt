@@ -1,7 +1,6 @@
 -- `records::requests::frame_of` meets its contract: a record with no place 3 has no frame.
 use mathlib.Core.Path.{◌∙◌}
 use native.Mathlib.Omega.{arith}
-use borrow.Author.Rules.{rules}
 use Rattle.records.proofs.RequestLaws.{rest_is, nothing_behind}
 use Rattle.records.proofs.requests.frame_of.Goals as goal
 

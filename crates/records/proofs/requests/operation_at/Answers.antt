@@ -1,5 +1,4 @@
 -- `records::requests::operation_at` meets its contract: each field is the number at its place.
-use borrow.Author.Rules.{rules}
 use Rattle.records.specs.Requests.{operation_at}
 use Rattle.records.proofs.requests.operation_at.Goals as goal
 

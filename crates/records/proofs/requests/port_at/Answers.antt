@@ -1,5 +1,4 @@
 -- `records::requests::port_at` meets its contract: each field is the number at its place.
-use borrow.Author.Rules.{rules}
 use Rattle.records.specs.Requests.{port_at}
 use Rattle.records.proofs.requests.port_at.Goals as goal
 

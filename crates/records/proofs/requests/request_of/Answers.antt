@@ -1,7 +1,6 @@
 -- `records::requests::request_of` meets its contract: each return is one outcome of a record.
 use mathlib.Core.Path.{sym, ◌∙◌}
 use native.Mathlib.Omega.{arith}
-use borrow.Author.Rules.{rules}
 use Rattle.records.proofs.RequestLaws.{rest_is, over_long, wrong_size, right_size}
 use Rattle.records.proofs.requests.request_of.Goals as goal
 

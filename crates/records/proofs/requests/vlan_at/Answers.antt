@@ -1,5 +1,4 @@
 -- `records::requests::vlan_at` meets its contract: each field is the number at its place.
-use borrow.Author.Rules.{rules}
 use Rattle.records.specs.Requests.{vlan_at}
 use Rattle.records.proofs.requests.vlan_at.Goals as goal
 

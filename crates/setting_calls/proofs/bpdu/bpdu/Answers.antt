@@ -4,7 +4,6 @@ use borrow.Author.Tests.{le-leb, lt-leb}
 use Rattle.rules.specs.Refusals.{refusal_number, bpdu_lines}
 use Rattle.setting_calls.specs.Calls.{bpdu_refusals, bpdu_call}
 use Rattle.layout.proofs.Ends.{fixed_part, too_short, long_enough, out_of_range_lem, in_range}
-use borrow.Author.Rules.{rules}
 use Rattle.setting_calls.proofs.bpdu.bpdu.Goals as goal
 
 pub returns-then-on-gt1 : goal.returns-then-on-gt1

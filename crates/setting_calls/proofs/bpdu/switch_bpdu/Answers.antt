@@ -1,6 +1,5 @@
 -- `setting_calls::bpdu::switch_bpdu` meets its contract: the word in range, or not.
 use mathlib.Core.Path.{sym, ◌∙◌}
-use borrow.Author.Rules.{rules}
 use Rattle.rules.specs.Arguments.{flag}
 use Rattle.rules.specs.Refusals.{refusal_number}
 use Rattle.setting_calls.specs.Calls.{bpdu_written}

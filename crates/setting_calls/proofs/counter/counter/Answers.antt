@@ -5,7 +5,6 @@ use borrow.Author.Tests.{le-leb, lt-leb}
 use Rattle.rules.specs.Refusals.{refusal_number, counter_lines}
 use Rattle.setting_calls.specs.Calls.{counter_refusals, counter_call}
 use Rattle.layout.proofs.Ends.{fixed_part, too_short, long_enough, port_above, port_good, out_of_range_lem, in_range, finished}
-use borrow.Author.Rules.{rules}
 use Rattle.setting_calls.proofs.counter.counter.Goals as goal
 
 pub returns-then-port-gt-LAST_PORT : goal.returns-then-port-gt-LAST_PORT

@@ -1,6 +1,5 @@
 -- `setting_calls::port::place_port` meets its contract: the states in range, or not.
 use mathlib.Core.Path.{sym, ◌∙◌}
-use borrow.Author.Rules.{rules}
 use Rattle.rules.specs.Refusals.{refusal_number}
 use Rattle.setting_calls.proofs.WordEnds.{word_good, word_bad}
 use Rattle.setting_calls.proofs.port.place_port.Goals as goal

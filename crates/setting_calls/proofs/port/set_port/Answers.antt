@@ -5,7 +5,6 @@ use Rattle.rules.specs.Refusals.{refusal_number, port_lines}
 use Rattle.setting_calls.specs.Calls.{port_refusals, port_call}
 use Rattle.settings.proofs.RangeLaws.{port_range}
 use Rattle.layout.proofs.Ends.{fixed_part, too_short, long_enough, port_above, port_good, out_of_range_lem, in_range}
-use borrow.Author.Rules.{rules}
 use Rattle.setting_calls.proofs.port.set_port.Goals as goal
 
 pub returns-then-port-gt-LAST_PORT : goal.returns-then-port-gt-LAST_PORT

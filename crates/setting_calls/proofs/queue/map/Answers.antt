@@ -5,7 +5,6 @@ use borrow.Author.Tests.{le-leb, lt-leb}
 use Rattle.rules.specs.Refusals.{refusal_number, map_lines}
 use Rattle.setting_calls.specs.Calls.{map_refusals, map_call}
 use Rattle.layout.proofs.Ends.{fixed_part, first_fails, second_fails, both_hold, too_short, long_enough, out_of_range_lem, in_range}
-use borrow.Author.Rules.{rules}
 use Rattle.setting_calls.proofs.queue.map.Goals as goal
 
 pub returns-then-pcp-gt-LAST_PCP : goal.returns-then-pcp-gt-LAST_PCP

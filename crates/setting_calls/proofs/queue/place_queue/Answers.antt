@@ -1,6 +1,5 @@
 -- `setting_calls::queue::place_queue` meets its contract: the word in range, or not.
 use mathlib.Core.Path.{sym, ◌∙◌}
-use borrow.Author.Rules.{rules}
 use Rattle.rules.specs.Refusals.{refusal_number}
 use Rattle.setting_calls.specs.Calls.{queue_written}
 use Rattle.setting_calls.proofs.WordEnds.{word_good, word_bad}

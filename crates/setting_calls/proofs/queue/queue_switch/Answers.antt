@@ -5,7 +5,6 @@ use borrow.Author.Tests.{le-leb, lt-leb}
 use Rattle.rules.specs.Refusals.{refusal_number, queue_switch_lines}
 use Rattle.setting_calls.specs.Calls.{queue_switch_refusals, queue_switch_call}
 use Rattle.layout.proofs.Ends.{fixed_part, first_fails, second_fails, both_hold, too_short, long_enough, port_above, port_good, out_of_range_lem, in_range}
-use borrow.Author.Rules.{rules}
 use Rattle.setting_calls.proofs.queue.queue_switch.Goals as goal
 
 pub returns-then-port-gt-LAST_PORT : goal.returns-then-port-gt-LAST_PORT

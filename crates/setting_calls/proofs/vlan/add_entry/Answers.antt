@@ -1,7 +1,6 @@
 -- `setting_calls::vlan::add_entry` meets its contract.
 use Rattle.rules.specs.Refusals.{refusal_number}
 use Rattle.setting_calls.proofs.VlanEnds.{none_left, added}
-use borrow.Author.Rules.{rules}
 use Rattle.setting_calls.proofs.vlan.add_entry.Goals as goal
 
 pub returns-then-links-lt-MOST_VLANS : goal.returns-then-links-lt-MOST_VLANS

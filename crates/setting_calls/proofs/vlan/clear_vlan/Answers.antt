@@ -4,7 +4,6 @@ use Rattle.rules.specs.Refusals.{refusal_number, clear_vlan_lines}
 use Rattle.setting_calls.specs.Vlans.{clear_vlan_refusals, clear_vlan_call}
 use Rattle.setting_calls.specs.Placed.{vlan_cleared}
 use Rattle.layout.proofs.Ends.{fixed_part, too_short, long_enough, out_of_range_lem, in_range}
-use borrow.Author.Rules.{rules}
 use Rattle.setting_calls.proofs.vlan.clear_vlan.Goals as goal
 
 pub erase_vlan-requires : goal.erase_vlan-requires

@@ -4,7 +4,6 @@ use native.Mathlib.Omega.{arith}
 use Rattle.rules.specs.Refusals.{refusal_number}
 use Rattle.settings.proofs.FindLaws.{found_there}
 use Rattle.setting_calls.proofs.VlanEnds.{cleared_there, cleared_missing, cleared_damaged}
-use borrow.Author.Rules.{rules}
 use Rattle.setting_calls.proofs.vlan.erase_vlan.Goals as goal
 
 pub clear_vlan-requires-clause-fixed_words_in_bounds : goal.clear_vlan-requires-clause-fixed_words_in_bounds

@@ -4,7 +4,6 @@ use native.Mathlib.Omega.{arith}
 use Rattle.rules.specs.Refusals.{refusal_number}
 use Rattle.settings.proofs.FindLaws.{found_there}
 use Rattle.setting_calls.proofs.VlanEnds.{placed_there, placed_new, placed_damaged}
-use borrow.Author.Rules.{rules}
 use Rattle.setting_calls.proofs.vlan.place_vlan.Goals as goal
 
 pub write_vlan-requires : goal.write_vlan-requires

@@ -5,7 +5,6 @@ use Rattle.setting_calls.specs.Vlans.{vlan_refusals, vlan_call}
 use Rattle.setting_calls.specs.Placed.{vlan_placed}
 use Rattle.settings.proofs.RangeLaws.{vlan_range}
 use Rattle.layout.proofs.Ends.{fixed_part, too_short, long_enough, out_of_range_lem, in_range}
-use borrow.Author.Rules.{rules}
 use Rattle.setting_calls.proofs.vlan.set_vlan.Goals as goal
 
 pub place_vlan-requires : goal.place_vlan-requires

@@ -1,5 +1,4 @@
 -- `settings::map::bpdu_in` meets its contract.
-use borrow.Author.Rules.{rules}
 use Rattle.settings.specs.Maps.{bpdu_in}
 use Rattle.settings.proofs.map.bpdu_in.Goals as goal
 

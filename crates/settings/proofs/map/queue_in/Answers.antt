@@ -1,6 +1,5 @@
 -- `settings::map::queue_in` meets its contract.
 use mathlib.Core.Path.{refl}
-use borrow.Author.Rules.{rules}
 use Rattle.settings.specs.Maps.{queue_in}
 use Rattle.settings.proofs.map.queue_in.Goals as goal
 

@@ -1,5 +1,4 @@
 -- `settings::map::with_bpdu` meets its contract.
-use borrow.Author.Rules.{rules}
 use Rattle.settings.specs.Maps.{with_bpdu}
 use Rattle.settings.proofs.map.with_bpdu.Goals as goal
 

@@ -1,5 +1,4 @@
 -- `settings::map::with_queue` meets its contract.
-use borrow.Author.Rules.{rules}
 use Rattle.settings.specs.Maps.{with_queue}
 use Rattle.settings.proofs.map.with_queue.Goals as goal
 

@@ -1,6 +1,4 @@
 -- `settings::operation::given_header` meets its contract.
-use native.Mathlib.Omega.{arith}
-use borrow.Author.Rules.{rules}
 use Rattle.settings.proofs.OperationLaws.{given_in}
 use Rattle.settings.proofs.operation.given_header.Goals as goal
 

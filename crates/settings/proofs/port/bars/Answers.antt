@@ -1,6 +1,5 @@
 -- `settings::port::bars` meets its contract.
 use mathlib.Core.Path.{sym}
-use borrow.Author.Rules.{rules}
 use Rattle.rules.specs.Arguments.{bit}
 use Rattle.settings.proofs.PortLaws.{bars_in}
 use Rattle.settings.proofs.port.bars.Goals as goal

@@ -1,6 +1,4 @@
 -- `settings::port::default_header` meets its contract.
-use native.Mathlib.Omega.{arith}
-use borrow.Author.Rules.{rules}
 use Rattle.settings.proofs.PortLaws.{header_in_lem}
 use Rattle.settings.proofs.port.default_header.Goals as goal
 

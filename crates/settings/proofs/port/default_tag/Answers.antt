@@ -1,6 +1,5 @@
 -- `settings::port::default_tag` meets its contract.
 use native.Mathlib.Omega.{arith}
-use borrow.Author.Rules.{rules}
 use Rattle.settings.proofs.PortLaws.{default_tag}
 use Rattle.settings.proofs.port.default_tag.Goals as goal
 

@@ -1,6 +1,5 @@
 -- `settings::port_words::write_port` meets its contract: the state among the states, then the port's two words.
 use native.Mathlib.Omega.{arith}
-use borrow.Author.Rules.{rules}
 use lib.ListN.{length-set}
 use Rattle.settings.specs.Ports.{port_is}
 use Rattle.settings.proofs.Runs.{port_run}

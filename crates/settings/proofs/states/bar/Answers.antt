@@ -1,6 +1,5 @@
 -- `settings::states::bar` meets its contract.
 use mathlib.Core.Path.{sym, ◌∙◌}
-use borrow.Author.Rules.{rules}
 use Rattle.settings.proofs.StateLaws.{bar_of, bar_in}
 use Rattle.settings.proofs.states.bar.Goals as goal
 

@@ -1,5 +1,4 @@
 -- `settings::states::with_state` meets its contract.
-use borrow.Author.Rules.{rules}
 use Rattle.settings.specs.States.{opens, with_state}
 use Rattle.settings.proofs.states.with_state.Goals as goal
 

@@ -1,5 +1,4 @@
 -- `settings::switches::with_switch` meets its contract.
-use borrow.Author.Rules.{rules}
 use Rattle.settings.specs.Switches.{with_switch}
 use Rattle.settings.proofs.switches.with_switch.Goals as goal
 

@@ -1,5 +1,4 @@
 -- `settings::table::add_vlan` meets its contract: the entry's run, then the count.
-use borrow.Author.Rules.{rules}
 use Rattle.settings.specs.Table.{added_vlan}
 use Rattle.settings.proofs.table.add_vlan.Goals as goal
 

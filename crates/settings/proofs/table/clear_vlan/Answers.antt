@@ -1,6 +1,5 @@
 -- `settings::table::clear_vlan` meets its contract: the words that move, the zeros, and the count.
 use native.Mathlib.Omega.{arith}
-use borrow.Author.Rules.{rules}
 use lib.ListN.{length-set}
 use Rattle.settings.proofs.TableSteps.{cleared_is}
 use Rattle.settings.proofs.table.clear_vlan.Goals as goal

@@ -1,13 +1,8 @@
 -- `settings::table::find_vlan` meets its contract.
-use Prim.Native.Nat.{◌-◌, ◌≤◌}
-use mathlib.Core.Path.{◌≡◌, sym, ◌∙◌}
+use mathlib.Core.Path.{sym, ◌∙◌}
 use native.Mathlib.Nat.{sub-zero}
 use native.Mathlib.Omega.{arith}
-use borrow.Author.Rules.{rules}
-use borrow.Author.Tests.{not-true, not-false}
-use Rattle.layout.specs.Places.{vlan_count_word}
 use Rattle.settings.proofs.TableSteps.{met_bad, met_hit, met_next, met_end, search_starts, too_many}
-use Rattle.settings.specs.Table.{find_from, found_vlan}
 use Rattle.settings.proofs.table.find_vlan.Goals as goal
 
 pub returns-then-count-gt16 : goal.returns-then-count-gt16
@@ -28,13 +23,12 @@ returns-then-vid_in-vid c =
     ∙ c.loop-entry.invariant.1
 
 pub loop-entry-preserved : goal.loop-entry-preserved
-loop-entry-preserved c =
-    (
-      omega arith,
-      met_next _ _ _ _ c.loop-entry-test.true (sym c.is_vid_word-good.ensures ∙ c.if-not-good.false)
-          (λ same. c.if-vid_in-vid.false (c.vid_in.ensures ∙ same))
-          ∙ c.loop-entry.invariant.1,
-    )
+loop-entry-preserved c = (
+  omega arith,
+  met_next _ _ _ _ c.loop-entry-test.true (sym c.is_vid_word-good.ensures ∙ c.if-not-good.false)
+      (λ same. c.if-vid_in-vid.false (c.vid_in.ensures ∙ same))
+      ∙ c.loop-entry.invariant.1,
+)
 
 pub returns : goal.returns
 returns c = met_end _ _ _ _ c.loop-entry-test.false ∙ c.loop-entry.invariant.1

@@ -1,9 +1,8 @@
 -- `settings::table::move_down` meets its contract.
-use Prim.Native.Nat.{◌-◌, ◌≤◌}
-use mathlib.Core.Path.{◌≡◌, refl, ◌∙◌}
+use mathlib.Core.Path.{refl, ◌∙◌}
 use native.Mathlib.Omega.{arith}
-use lib.ListN.{length, length-set}
-use Rattle.settings.proofs.TableSteps.{moved, moved_turn, moved_end, moved_run}
+use lib.ListN.{length-set}
+use Rattle.settings.proofs.TableSteps.{moved_turn, moved_end, moved_run}
 use Rattle.settings.proofs.table.move_down.Goals as goal
 
 pub loop-i-init : goal.loop-i-init

@@ -1,9 +1,8 @@
 -- `settings::table::move_down` meets its contract: moving the words that are left gives the result.
 use Prim.Native.Nat.{◌-◌, ◌≤◌}
-use mathlib.Core.Path.{◌≡◌, refl, ◌∙◌}
-use native.Mathlib.Omega.{arith}
-use lib.ListN.{length, length-set}
-use Rattle.settings.proofs.TableSteps.{moved, moved_turn, moved_end, moved_run}
+use mathlib.Core.Path.{◌≡◌}
+use lib.ListN.{length}
+use Rattle.settings.proofs.TableSteps.{moved}
 use Rattle.settings.proofs.table.move_down.Given as goal
 
 abbrev pub invariant-loop-i : goal.invariant-loop-i

@@ -1,5 +1,4 @@
 -- `settings::vlan::vlan_in_range` meets its contract, with the operation's test by its call.
-use borrow.Author.Rules.{rules}
 use Rattle.rules.specs.Arguments.{vlan_in_range, is_vid}
 use Rattle.settings.proofs.vlan.vlan_in_range.Goals as goal
 

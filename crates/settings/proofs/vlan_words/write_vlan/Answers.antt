@@ -1,6 +1,5 @@
 -- `settings::vlan_words::write_vlan` meets its contract: the entry's two words.
 use native.Mathlib.Omega.{arith}
-use borrow.Author.Rules.{rules}
 use lib.ListN.{length-set}
 use Rattle.settings.specs.Ports.{vlan_is}
 use Rattle.settings.proofs.Runs.{vlan_run}

@@ -1,6 +1,5 @@
 -- `tags::headers::assigned_vid` meets its contract: each return is one outcome of the assignment.
 use mathlib.Core.Path.{sym, ap, ◌∙◌}
-use borrow.Author.Rules.{rules}
 use Rattle.tags.proofs.Stacks.{vid_default, vid_missing, vid_there}
 use Rattle.rules.specs.Tags.{Header}
 use Rattle.tags.proofs.headers.assigned_vid.Goals as goal

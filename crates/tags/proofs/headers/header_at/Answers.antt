@@ -1,7 +1,6 @@
 -- `tags::headers::header_at` meets its contract: each return is one case of a stack's count.
 use mathlib.Core.Path.{◌≡◌, sym}
 use native.Mathlib.Omega.{arith}
-use borrow.Author.Rules.{rules}
 use Rattle.tags.proofs.Stacks.{header_missing, header_outermost, header_second}
 use Rattle.tags.proofs.headers.header_at.Goals as goal
 

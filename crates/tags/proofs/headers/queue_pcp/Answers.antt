@@ -1,6 +1,5 @@
 -- `tags::headers::queue_pcp` meets its contract, by the outermost header.
 use mathlib.Core.Path.{ap}
-use borrow.Author.Rules.{rules}
 use Rattle.rules.specs.Settings.{queue_pcp}
 use Rattle.rules.specs.Tags.{Header, header_of}
 use Rattle.tags.proofs.headers.queue_pcp.Goals as goal

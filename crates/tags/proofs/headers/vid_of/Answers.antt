@@ -1,6 +1,5 @@
 -- `tags::headers::vid_of` meets its contract, which says what the code does.
 use mathlib.Core.Path.{refl}
-use borrow.Author.Rules.{rules}
 use Rattle.rules.specs.Tags.{header_of}
 use Rattle.tags.proofs.headers.vid_of.Goals as goal
 

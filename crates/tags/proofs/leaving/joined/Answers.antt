@@ -1,6 +1,5 @@
 -- `tags::leaving::joined` meets its contract: the number's digits are the tag's parts.
 use native.Mathlib.Omega.{arith}
-use borrow.Author.Rules.{rules}
 use Rattle.tags.proofs.Operated.{joined_is}
 use Rattle.tags.proofs.leaving.joined.Goals as goal
 

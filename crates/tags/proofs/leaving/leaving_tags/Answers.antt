@@ -1,7 +1,6 @@
 -- `tags::leaving::leaving_tags` meets its contract: the first operation leaves at most three tags, so that the second may add one.
 use mathlib.Core.Path.{ap}
 use native.Mathlib.Omega.{arith}
-use borrow.Author.Rules.{rules}
 use lib.ListN.{length}
 use Rattle.rules.specs.Operations.{leaving_tags}
 use Rattle.tags.specs.Numbers.{origin_is, stack_is}

@@ -1,6 +1,5 @@
 -- `tags::leaving::new_tag` meets its contract: its parts are those that the calls ensure.
 use mathlib.Core.Path.{◌∙◌}
-use borrow.Author.Rules.{rules}
 use Rattle.tags.proofs.Operated.{new_is}
 use Rattle.tags.proofs.leaving.new_tag.Goals as goal
 

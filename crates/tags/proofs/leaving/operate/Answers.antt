@@ -1,7 +1,6 @@
 -- `tags::leaving::operate` meets its contract: each return is one kind.
 use mathlib.Core.Path.{◌∙◌}
 use native.Mathlib.Omega.{arith}
-use borrow.Author.Rules.{rules}
 use Rattle.tags.specs.Numbers.{first_tags, stack_is}
 use Rattle.tags.proofs.Operated.{operated_none, operated_pop, operated_push, operated_swap, operated_pop_all}
 use Rattle.tags.proofs.leaving.operate.Goals as goal

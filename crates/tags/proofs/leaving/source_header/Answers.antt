@@ -1,7 +1,6 @@
 -- `tags::leaving::source_header` meets its contract: the source is the operation or one of two tags.
 use mathlib.Core.Path.{◌∙◌}
 use native.Mathlib.Omega.{arith}
-use borrow.Author.Rules.{rules}
 use Rattle.tags.specs.Numbers.{origin_is}
 use Rattle.tags.proofs.Operated.{from_operation, from_tag}
 use Rattle.tags.proofs.leaving.source_header.Goals as goal

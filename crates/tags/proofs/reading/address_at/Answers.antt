@@ -1,7 +1,6 @@
 -- `tags::reading::address_at` meets its contract: eight bytes turned round, without the last two.
 use native.Mathlib.Omega.{arith}
 use Rattle.tags.proofs.Swaps.{address_of_eight}
-use borrow.Author.Rules.{rules}
 use Rattle.tags.proofs.reading.address_at.Goals as goal
 
 pub returns : goal.returns

@@ -1,5 +1,4 @@
 -- `tags::reading::address_in_six` meets its contract: six bytes are two and four.
-use borrow.Author.Rules.{rules}
 use Rattle.tags.proofs.Numbers.{address_of_six}
 use Rattle.tags.proofs.reading.address_in_six.Goals as goal
 

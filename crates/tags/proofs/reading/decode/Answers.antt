@@ -1,7 +1,6 @@
 -- `tags::reading::decode` meets its contract: each return is one outcome of the two places where a tag may stand.
 use mathlib.Core.Path.{sym, ◌∙◌}
 use native.Mathlib.Omega.{arith}
-use borrow.Author.Rules.{rules}
 use Rattle.tags.proofs.Numbers.{decoded_none, decoded_one, decoded_two}
 use Rattle.tags.proofs.reading.decode.Goals as goal
 

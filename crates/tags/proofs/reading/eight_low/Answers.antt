@@ -1,6 +1,5 @@
 -- `tags::reading::eight_low` meets its contract, which says what the code does.
 use Rattle.tags.specs.Reading.{eight_low_at}
-use borrow.Author.Rules.{rules}
 use Rattle.tags.proofs.reading.eight_low.Goals as goal
 
 pub returns : goal.returns

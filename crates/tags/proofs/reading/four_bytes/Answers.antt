@@ -1,6 +1,5 @@
 -- `tags::reading::four_bytes` meets its contract: four bytes turned round.
 use native.Mathlib.Omega.{arith}
-use borrow.Author.Rules.{rules}
 use Rattle.tags.proofs.Swaps.{swap_four_lem}
 use Rattle.tags.proofs.reading.four_bytes.Goals as goal
 

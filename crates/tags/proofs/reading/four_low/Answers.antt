@@ -1,5 +1,4 @@
 -- `tags::reading::four_low` meets its contract, which says what the code does.
-use borrow.Author.Rules.{rules}
 use Rattle.tags.specs.Reading.{four_low_at}
 use Rattle.tags.proofs.reading.four_low.Goals as goal
 

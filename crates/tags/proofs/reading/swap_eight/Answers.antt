@@ -1,6 +1,5 @@
 -- `tags::reading::swap_eight` meets its contract, which says what the code does.
 use Rattle.tags.specs.Reading.{swap_eight}
-use borrow.Author.Rules.{rules}
 use Rattle.tags.proofs.reading.swap_eight.Goals as goal
 
 pub returns : goal.returns

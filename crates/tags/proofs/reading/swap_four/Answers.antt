@@ -1,5 +1,4 @@
 -- `tags::reading::swap_four` meets its contract, which says what the code does.
-use borrow.Author.Rules.{rules}
 use Rattle.tags.specs.Reading.{swap_four}
 use Rattle.tags.proofs.reading.swap_four.Goals as goal
 

@@ -1,6 +1,5 @@
 -- `tags::reading::two_bytes` meets its contract: two bytes turned round.
 use native.Mathlib.Omega.{arith}
-use borrow.Author.Rules.{rules}
 use Rattle.tags.proofs.Swaps.{swap_two_lem}
 use Rattle.tags.proofs.reading.two_bytes.Goals as goal
 

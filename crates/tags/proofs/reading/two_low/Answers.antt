@@ -2,7 +2,6 @@
 use Prim.Native.Nat.{◌+◌}
 use mathlib.Core.Path.{refl}
 use native.Mathlib.Omega.{arith}
-use borrow.Author.Rules.{rules}
 use Rattle.tags.specs.Reading.{two_low_at}
 use Rattle.tags.proofs.reading.two_low.Goals as goal
 

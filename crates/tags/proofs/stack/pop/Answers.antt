@@ -1,6 +1,5 @@
 -- `tags::stack::pop` meets its contract: an empty stack stays, another loses its first.
 use native.Mathlib.Omega.{arith}
-use borrow.Author.Rules.{rules}
 use Rattle.tags.proofs.Stacks.{pop_none, pop_is}
 use Rattle.tags.proofs.stack.pop.Goals as goal
 

@@ -1,5 +1,4 @@
 -- `tags::stack::push` meets its contract, by what a push makes of a stack.
-use borrow.Author.Rules.{rules}
 use Rattle.tags.proofs.Stacks.{push_is}
 use Rattle.tags.proofs.stack.push.Goals as goal
 

@@ -1,7 +1,6 @@
 -- `tags::writing::encode` meets its contract: the stores of each count of tags are the stack's bytes.
 use mathlib.Core.Path.{◌∙◌}
 use native.Mathlib.Omega.{arith}
-use borrow.Author.Rules.{rules}
 use Rattle.tags.proofs.TagRuns.{encoded_none, encoded_one, encoded_two, encoded_three, encoded_four}
 use Rattle.tags.proofs.writing.encode.Goals as goal
 

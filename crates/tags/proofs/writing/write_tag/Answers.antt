@@ -1,6 +1,5 @@
 -- `tags::writing::write_tag` meets its contract: four stores are the run of a tag's bytes.
 use native.Mathlib.Omega.{arith}
-use borrow.Author.Rules.{rules}
 use lib.ListN.{length-set}
 use Rattle.tags.proofs.TagRuns.{tag_run}
 use Rattle.tags.proofs.writing.write_tag.Goals as goal

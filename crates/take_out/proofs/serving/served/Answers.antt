@@ -1,7 +1,6 @@
 -- `take_out::serving::served` meets its contract.
 use mathlib.Core.Path.{sym, ◌∙◌}
 use native.Mathlib.Omega.{arith}
-use borrow.Author.Tests.{not-true, not-false}
 use Rattle.queues.proofs.WaitingBits.{highest_waits}
 use Rattle.take_out.proofs.Service.{word_out, none_waits, oldest_out, oldest_served}
 use borrow.Author.Rules.{rules}

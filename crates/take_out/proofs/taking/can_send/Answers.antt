@@ -3,7 +3,6 @@ use mathlib.Core.Path.{sym, ◌∙◌}
 use native.Mathlib.Omega.{arith}
 use Rattle.departure.proofs.Copies.{waits_here, not_here}
 use Rattle.take_out.proofs.Takes.{no_fit, no_copy, fits_room}
-use borrow.Author.Rules.{rules}
 use Rattle.take_out.proofs.taking.can_send.Goals as goal
 
 pub has_room-requires : goal.has_room-requires

@@ -2,7 +2,6 @@
 use native.Mathlib.Omega.{arith}
 use Rattle.departure.proofs.Copies.{leaves}
 use Rattle.take_out.proofs.Takes.{sent_from_lem}
-use borrow.Author.Rules.{rules}
 use Rattle.take_out.proofs.taking.finish.Goals as goal
 
 pub depart_from-requires : goal.depart_from-requires

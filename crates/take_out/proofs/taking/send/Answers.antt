@@ -1,16 +1,14 @@
 -- `take_out::taking::send` meets its contract: by either way of writing.
 use mathlib.Core.Bool.{true}
-use mathlib.Core.Path.{◌≡◌, ap, ◌∙◌}
+use mathlib.Core.Path.{◌≡◌, ap}
 use Prim.Native.Nat.{◌≤◌}
 use native.Mathlib.Omega.{arith}
-use borrow.Author.Rules.{rules}
 use Rattle.cells.specs.declared.stored.StoredHeader.{StoredHeader}
 use Rattle.departure.proofs.Headers.{header}
 use Rattle.departure.specs.Frames.{leaves_plain}
-use Rattle.take_out.specs.Frames.{stored_at, operation_of_port, header_fits}
-use Rattle.departure.specs.Leaving.{can_leave}
+use Rattle.take_out.specs.Frames.{stored_at, operation_of_port}
 use Rattle.take_out.proofs.Takes.{can_send_lem, sent_is}
-use Rattle.departure.proofs.Copies.{Leaves, leaves}
+use Rattle.departure.proofs.Copies.{leaves}
 use Rattle.take_out.proofs.taking.send.Goals as goal
 
 pub is_plain-requires : goal.is_plain-requires

@@ -2,13 +2,11 @@
 use mathlib.Core.Bool.{true}
 use mathlib.Core.Path.{◌≡◌, ap, ◌∙◌}
 use native.Mathlib.Omega.{arith}
-use borrow.Author.Tests.{not-true, not-false}
 use Rattle.rules.specs.Refusals.{refusal_number}
 use Rattle.layout.specs.declared.answers.Answer.{Answer}
 use Rattle.departure.proofs.Copies.{leaves, left_here}
 use Rattle.take_out.specs.Frames.{can_send}
 use Rattle.take_out.proofs.Takes.{can_send_lem, by_header, frame_taken, frame_damaged}
-use borrow.Author.Rules.{rules}
 use Rattle.take_out.proofs.taking.take_frame.Goals as goal
 
 pub returns-then-not-can_send : goal.returns-then-not-can_send
