@@ -63,10 +63,10 @@ module _ (l : List ℕ) {answer : Answer} where
     unfolding static_placed first
     static_damaged f h e = rw (← met, f, h, e)
 
-    pub static_placed_lem : {after : List ℕ} → full found ≡ false → damaged found ≡ false
+    pub static_placed_law : {after : List ℕ} → full found ≡ false → damaged found ≡ false
         → after ≡ static_by found k port l → answer ≡ done_with 0 0 → (answer, after) ≡ static_placed l k port
     unfolding static_placed first
-    static_placed_lem f h a e = rw (← met, f, h, ← a, e)
+    static_placed_law f h a e = rw (← met, f, h, ← a, e)
 
   module _ (gid port address : ℕ) where
     pub static_short : addresses_fit l ≡ false → answer ≡ refused_by memory_length → (answer, l) ≡ static_call l gid port address

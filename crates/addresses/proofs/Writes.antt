@@ -38,9 +38,9 @@ module _ {found : LookUp} {port place : ℕ} (e : found ≡ Found port place) wh
   unfolding static_by
   static_found key here memory number w = rw (e, w)
 
-  pub remove_found_lem : (memory : List ℕ) → set memory place 0 ≡ removed_by found memory
+  pub remove_found_law : (memory : List ℕ) → set memory place 0 ≡ removed_by found memory
   unfolding removed_by
-  remove_found_lem memory = rw e
+  remove_found_law memory = rw e
 
 module _ {found : LookUp} {place : ℕ} (e : found ≡ Vacant place) where
   pub vacant_inside : (n : ℕ) → place_of found < n → place < n

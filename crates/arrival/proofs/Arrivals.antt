@@ -25,7 +25,7 @@ use Rattle.tags.specs.declared.stack.Stack.{Stack}
 use Rattle.settings.specs.Ports.{port_in, vid_in, default_in, default_of}
 use Rattle.settings.specs.States.{state_in, bar_number}
 use Rattle.settings.specs.Maps.{bpdu_in, queue_in}
-use Rattle.settings.proofs.PortLaws.{default_in_lem}
+use Rattle.settings.proofs.PortLaws.{default_in_law}
 use Rattle.settings.proofs.StateLaws.{learning_in}
 use Rattle.arrival.specs.Arrivals.{port_rules, ToldIs, ArrivalIs}
 use Rattle.arrival.specs.declared.entering.Arrival.{Arrival}
@@ -66,10 +66,10 @@ module _ (frame : List ℕ) (f : Facts) (bytes_are : f.packet.bytes ≡ frame) w
 -- ---- a BPDU
 
 module _ (map port : ℕ) (frame : List ℕ) where
-  pub bpdu_address_lem : address_at frame 0 ≡ bpdu_address
+  pub bpdu_address_law : address_at frame 0 ≡ bpdu_address
       → (bpdu_in map && not (eqb port management_port)) ≡ (bpdu_in map && not (eqb port management_port) && eqb (destination frame) bpdu_address)
   unfolding destination
-  bpdu_address_lem e = rw (eq-eqb (address_at frame 0) bpdu_address e) (sym (whole (bpdu_in map && not (eqb port management_port))))
+  bpdu_address_law e = rw (eq-eqb (address_at frame 0) bpdu_address e) (sym (whole (bpdu_in map && not (eqb port management_port))))
     where
       whole : (b : Bool) → (b && true) ≡ b
       whole true = refl
@@ -172,7 +172,7 @@ module _ (word states map port : ℕ) (operation : OperationNumbers) where
     pub arrival_is : ArrivalIs own map frame made
     arrival_is =
         record {
-          default = ap default_of default_is ∙ default_in_lem (state_in states port) operation word;
+          default = ap default_of default_is ∙ default_in_law (state_in states port) operation word;
           pcp_small = rw (← tags_are) (pcp_below tags own.default own_pcp);
           queue = queue_is ∙ ap (queue_in map) (told.pcp ∙ rw tags_are);
           vid = told.vid ∙ rw tags_are;

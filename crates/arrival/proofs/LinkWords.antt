@@ -19,9 +19,9 @@ use Rattle.arrival.specs.Candidates.{every_port, management_mask, candidates_in,
 use Rattle.arrival.proofs.Masks.{masks_are, bpdu_masks_are}
 
 module _ (l : List ℕ) where
-  pub port_is_lem : (r : ℕ) → r < 5 → (settings_of l).port r ≡ port_of (port_at l r)
+  pub port_is_law : (r : ℕ) → r < 5 → (settings_of l).port r ≡ port_of (port_at l r)
   unfolding settings_of ports_of
-  port_is_lem r h = rw (lt-ltb r 5 h)
+  port_is_law r h = rw (lt-ltb r 5 h)
 
   pub queue_is : (pcp : ℕ) → pcp ≤ 7 → (settings_of l).queue_of pcp ≡ queue_in (map_at l) pcp
   unfolding settings_of queues_of
@@ -41,13 +41,13 @@ module _ (l : List ℕ) where
 
   open_is : (v : Vlan) (r : ℕ) → r < 5 → departs (state_for (settings_of l) v r) ≡ bit (states_at l) r
   unfolding state_for
-  open_is v r h = ap (λ (p : Port). departs p.state) (port_is_lem r h) ∙ ap departs (state_is r) ∙ open_in (states_at l) r
+  open_is v r h = ap (λ (p : Port). departs p.state) (port_is_law r h) ∙ ap departs (state_is r) ∙ open_in (states_at l) r
 
   -- the masks of the words are those of the rules' tests
-  pub masks_in_lem : (v : Vlan) (chooses : ℕ → Bool) (port queue members chosen : ℕ) → members < 32 → queue ≤ 3
+  pub masks_in_law : (v : Vlan) (chooses : ℕ → Bool) (port queue members chosen : ℕ) → members < 32 → queue ≤ 3
       → ((r : ℕ) → v.member r ≡ bit members r) → ((r : ℕ) → r < 5 → chooses r ≡ bit chosen r)
       → MasksAre (port_test (settings_of l) v chooses port queue) (masks_of (candidates_in members chosen port) (states_at l) (switches_at l) queue)
-  masks_in_lem v chooses port queue members chosen small q member choice =
+  masks_in_law v chooses port queue members chosen small q member choice =
       masks_are (settings_of l) v chooses port queue members chosen (states_at l) (switches_at l) small
       (record { member = λ r h. member r; choice = choice; opened = open_is v; switched = λ r h. switch_is r queue h (omega arith) })
 

@@ -15,8 +15,8 @@ use Rattle.rules.specs.PortTests.{Test, passes, not_member, arrival, elsewhere, 
 use Rattle.rules.proofs.Choice.{on, eqb_sym, or_left, or_right}
 use Rattle.layout.specs.Bits.{less}
 use Rattle.settings.specs.Switches.{switch_in}
-use Rattle.layout.proofs.BitLaws.{bit_and_lem, bit_less, bit_power, zero_bits, bits_zero, five}
-use Rattle.settings.proofs.SwitchLaws.{switches_of_lem}
+use Rattle.layout.proofs.BitLaws.{bit_and_law, bit_less, bit_power, zero_bits, bits_zero, five}
+use Rattle.settings.proofs.SwitchLaws.{switches_of_law}
 use Rattle.arrival.specs.declared.plan.Masks.{Masks}
 use Rattle.arrival.specs.Candidates.{every_port, management_mask, ports_in, candidates_in, masks_of, is_state_out, is_queue_out, MasksAre}
 
@@ -26,7 +26,7 @@ pub candidate_bit : (members chosen port r : ℕ) → bit (candidates_in members
 unfolding candidates_in
 candidate_bit members chosen port r =
     bit_less (bit_and members chosen) (2 ^ port) r
-    ∙ ap₂ (λ (a b : Bool). a && not b) (bit_and_lem members chosen r) (bit_power port r ∙ eqb_sym port r)
+    ∙ ap₂ (λ (a b : Bool). a && not b) (bit_and_law members chosen r) (bit_power port r ∙ eqb_sym port r)
 
 pub candidates_small : (members chosen port : ℕ) → members < 32 → candidates_in members chosen port < 32
 unfolding candidates_in less
@@ -39,13 +39,13 @@ module _ (candidates states switches queue : ℕ) where
   -- the candidate's state, and its queue switch
   passing_bit : (r : ℕ) → bit (masks_of candidates states switches queue).passing r ≡ (bit candidates r && bit states r)
   unfolding masks_of
-  passing_bit r = bit_and_lem candidates states r
+  passing_bit r = bit_and_law candidates states r
 
   left_bit : (r : ℕ) → bit (masks_of candidates states switches queue).left r ≡ (bit candidates r && bit states r && switch_in switches r queue)
   unfolding masks_of
   left_bit r =
-      bit_and_lem (bit_and candidates states) (switches / 2 ^ (8 * queue)) r
-      ∙ ap₂ (λ (a b : Bool). a && b) (bit_and_lem candidates states r) (switches_of_lem switches r queue)
+      bit_and_law (bit_and candidates states) (switches / 2 ^ (8 * queue)) r
+      ∙ ap₂ (λ (a b : Bool). a && b) (bit_and_law candidates states r) (switches_of_law switches r queue)
 
   candidates_are : (masks_of candidates states switches queue).candidates ≡ candidates
   unfolding masks_of
@@ -82,8 +82,8 @@ same_sift f g h = rw (h 0 (omega arith), h 1 (omega arith), h 2 (omega arith), h
 
 pub record ToldBy (k o q : Bool) (t : Test) : Type 0 where
   pub candidate : k ≡ is_candidate t
-  pub state_out_lem : (k && not (k && o)) ≡ is_state_out t
-  pub queue_out_lem : ((k && o) && not (k && o && q)) ≡ is_queue_out t
+  pub state_out_law : (k && not (k && o)) ≡ is_state_out t
+  pub queue_out_law : ((k && o) && not (k && o && q)) ≡ is_queue_out t
   pub passed : (k && o && q) ≡ is_passed t
 
 -- masks whose bits tell each port's test are those of the tests
@@ -99,12 +99,12 @@ module _ (test : ℕ → Test) (candidates states switches queue : ℕ) (small :
       ∙ rw ((told 0 (omega arith)).candidate, (told 1 (omega arith)).candidate, (told 2 (omega arith)).candidate, (told 3 (omega arith)).candidate, (told 4 (omega arith)).candidate)
 
   state_bit : (r : ℕ) → r < 5 → bit (less candidates m.passing) r ≡ is_state_out (test r)
-  state_bit r h = bit_less candidates m.passing r ∙ rw (passing_bit candidates states switches queue r) (told r h).state_out_lem
+  state_bit r h = bit_less candidates m.passing r ∙ rw (passing_bit candidates states switches queue r) (told r h).state_out_law
 
   queue_bit : (r : ℕ) → r < 5 → bit (less m.passing m.left) r ≡ is_queue_out (test r)
   queue_bit r h =
       bit_less m.passing m.left r
-      ∙ rw (left_bit candidates states switches queue r, passing_bit candidates states switches queue r) (told r h).queue_out_lem
+      ∙ rw (left_bit candidates states switches queue r, passing_bit candidates states switches queue r) (told r h).queue_out_law
 
   left_is : ports_in m.left ≡ ports_left test
   unfolding ports_in ports_left
@@ -115,8 +115,8 @@ module _ (test : ℕ → Test) (candidates states switches queue : ℕ) (small :
       record {
         small = left_small candidates states switches queue small;
         any = rw (candidates_are candidates states switches queue) any_is;
-        state_out_lem = λ r h. rw (candidates_are candidates states switches queue) (state_bit r h);
-        queue_out_lem = queue_bit;
+        state_out_law = λ r h. rw (candidates_are candidates states switches queue) (state_bit r h);
+        queue_out_law = queue_bit;
         left = left_is;
       }
 
@@ -125,13 +125,13 @@ module _ (test : ℕ → Test) (candidates states switches queue : ℕ) (small :
 told_by : (m a c o q : Bool)
     → ToldBy (m && c && not a) o q (if not m then not_member else (if a then arrival else (if not c then elsewhere else (if not o then state else (if not q then queue_off else passes)))))
 unfolding is_candidate is_state_out is_queue_out is_passed
-told_by false a c o q = record { candidate = refl; state_out_lem = refl; queue_out_lem = refl; passed = refl }
-told_by true true true o q = record { candidate = refl; state_out_lem = refl; queue_out_lem = refl; passed = refl }
-told_by true true false o q = record { candidate = refl; state_out_lem = refl; queue_out_lem = refl; passed = refl }
-told_by true false false o q = record { candidate = refl; state_out_lem = refl; queue_out_lem = refl; passed = refl }
-told_by true false true false q = record { candidate = refl; state_out_lem = refl; queue_out_lem = refl; passed = refl }
-told_by true false true true false = record { candidate = refl; state_out_lem = refl; queue_out_lem = refl; passed = refl }
-told_by true false true true true = record { candidate = refl; state_out_lem = refl; queue_out_lem = refl; passed = refl }
+told_by false a c o q = record { candidate = refl; state_out_law = refl; queue_out_law = refl; passed = refl }
+told_by true true true o q = record { candidate = refl; state_out_law = refl; queue_out_law = refl; passed = refl }
+told_by true true false o q = record { candidate = refl; state_out_law = refl; queue_out_law = refl; passed = refl }
+told_by true false false o q = record { candidate = refl; state_out_law = refl; queue_out_law = refl; passed = refl }
+told_by true false true false q = record { candidate = refl; state_out_law = refl; queue_out_law = refl; passed = refl }
+told_by true false true true false = record { candidate = refl; state_out_law = refl; queue_out_law = refl; passed = refl }
+told_by true false true true true = record { candidate = refl; state_out_law = refl; queue_out_law = refl; passed = refl }
 
 -- what words say of a frame's settings, VLAN and look-up, at the five ports
 pub record Says (s : Settings) (v : Vlan) (chooses : ℕ → Bool) (queue members chosen states switches : ℕ) : Type 0 where
@@ -164,9 +164,9 @@ every_bit = five (λ r. bit every_port r ≡ true) refl refl refl refl refl
 
 bpdu_told : (b q : Bool) → ToldBy b true q (if b then (if q then passes else queue_off) else elsewhere)
 unfolding is_candidate is_state_out is_queue_out is_passed
-bpdu_told true true = record { candidate = refl; state_out_lem = refl; queue_out_lem = refl; passed = refl }
-bpdu_told true false = record { candidate = refl; state_out_lem = refl; queue_out_lem = refl; passed = refl }
-bpdu_told false q = record { candidate = refl; state_out_lem = refl; queue_out_lem = refl; passed = refl }
+bpdu_told true true = record { candidate = refl; state_out_law = refl; queue_out_law = refl; passed = refl }
+bpdu_told true false = record { candidate = refl; state_out_law = refl; queue_out_law = refl; passed = refl }
+bpdu_told false q = record { candidate = refl; state_out_law = refl; queue_out_law = refl; passed = refl }
 
 module _ (s : Settings) (switches : ℕ) (switched : s.queue_on 4 3 ≡ switch_in switches 4 3) where
   at_four : (r : ℕ) → eqb r 4 ≡ true → switch_in switches r 3 ≡ switch_in switches 4 3

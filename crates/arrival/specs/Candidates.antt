@@ -79,6 +79,6 @@ is_queue_out queue_off = true
 pub record MasksAre (test : ℕ → Test) (m : Masks) : Type 0 where
   pub small : m.left < 32
   pub any : not (eqb m.candidates 0) ≡ any_candidate test
-  pub state_out_lem : (r : ℕ) → r < 5 → bit (less m.candidates m.passing) r ≡ is_state_out (test r)
-  pub queue_out_lem : (r : ℕ) → r < 5 → bit (less m.passing m.left) r ≡ is_queue_out (test r)
+  pub state_out_law : (r : ℕ) → r < 5 → bit (less m.candidates m.passing) r ≡ is_state_out (test r)
+  pub queue_out_law : (r : ℕ) → r < 5 → bit (less m.passing m.left) r ≡ is_queue_out (test r)
   pub left : ports_in m.left ≡ ports_left test

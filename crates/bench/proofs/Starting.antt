@@ -9,11 +9,11 @@ use Rattle.standing.specs.Histories.{fits}
 use Rattle.bench.specs.SessionTheorems.{Fresh}
 
 module _ (cells links addresses : List ℕ) (a : length cells ≡ 16000) (b : length links ≡ 5024) (c : length addresses ≡ 4112) where
-  lengths_fit_lem : fits (memories cells links addresses) ≡ true
+  lengths_fit_law : fits (memories cells links addresses) ≡ true
   unfolding lengths_fit
-  lengths_fit_lem = rw (a, b, c)
+  lengths_fit_law = rw (a, b, c)
 
   pub starts_fresh : (r : Answer) (words numbers : List ℕ)
       → came_to r [] (memories cells words numbers) ≡ on_all [] (fresh_call cells links addresses) → Fresh (memories cells words numbers)
   starts_fresh r words numbers e =
-      record { lent = memories cells links addresses; fit = lengths_fit_lem; count = rw a; are = sym (ap (λ (d : Done). d.memories) e) }
+      record { lent = memories cells links addresses; fit = lengths_fit_law; count = rw a; are = sym (ap (λ (d : Done). d.memories) e) }

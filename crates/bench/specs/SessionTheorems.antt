@@ -19,7 +19,7 @@ pub record Fresh (m : Memories) : Type 0 where
   pub count : cells_lent lent.cells ≡ bench_cells
   pub are : (begun lent).memories ≡ m
 
-pub record SessionTheorems (m : Memories) (fresh_switch_lem : Fresh m) (k : ℕ) (s : Session)
+pub record SessionTheorems (m : Memories) (fresh_switch_law : Fresh m) (k : ℕ) (s : Session)
     (ran : Ran (beginning m) k s) : Type 0 where
   -- What was written is the front of the lines: none is lost in between, whatever failed.
   pub front : (rest : List ℕ) × Told (fresh bench_cells) 0 s.came (s.handed ++ rest)

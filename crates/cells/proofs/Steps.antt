@@ -19,8 +19,8 @@ clamped_in n c some =
     ]
 
 module _ (n : ℕ) (l : List ℕ) where
-  pub next_in_lem : (c : ℕ) → 1 ≤ n → next n l c < n
-  next_in_lem c some = clamped_in n (next_in l c) some
+  pub next_in_law : (c : ℕ) → 1 ≤ n → next n l c < n
+  next_in_law c some = clamped_in n (next_in l c) some
 
   pub follow_cons : (k c : ℕ) → 0 < k → follow n l k c ≡ c ∷ follow n l (k - 1) (next n l c)
   follow_cons zero c h = absurd (omega arith)
@@ -32,11 +32,11 @@ module _ (n : ℕ) (l : List ℕ) where
 
   pub walk_in : (k c : ℕ) → c < n → walk n l k c < n
   walk_in zero c h = h
-  walk_in (suc k) c h = walk_in k (next n l c) (next_in_lem c (omega arith))
+  walk_in (suc k) c h = walk_in k (next n l c) (next_in_law c (omega arith))
 
   pub follow_below : (k c : ℕ) → c < n → all_below n (follow n l k c) ≡ true
   follow_below zero c h = refl
-  follow_below (suc k) c h = rw (lt-ltb c n h) (follow_below k (next n l c) (next_in_lem c (omega arith)))
+  follow_below (suc k) c h = rw (lt-ltb c n h) (follow_below k (next n l c) (next_in_law c (omega arith)))
 
   -- the last of more than one cell is the last of those after the first
   pub behind_cons : (k c : ℕ) → 1 < k → behind n l k c ≡ behind n l (k - 1) (next n l c)

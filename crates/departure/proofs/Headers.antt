@@ -22,9 +22,9 @@ use Rattle.departure.specs.Frames.{leaving_of, operation_fits, header_fits}
 
 -- ---- the departing port's operation
 
-pub operation_at_lem : (links : List ℕ) (port : ℕ) → operation_in (port_operation_at links port) ≡ (port_at links port).operation
+pub operation_at_law : (links : List ℕ) (port : ℕ) → operation_in (port_operation_at links port) ≡ (port_at links port).operation
 unfolding port_in
-operation_at_lem links port = refl
+operation_at_law links port = refl
 
 module _ (h : StoredHeader) where
   -- ---- the tags with which a frame leaves
@@ -41,8 +41,8 @@ module _ (h : StoredHeader) where
   -- ---- the tests
 
   module _ (links : List ℕ) (port : ℕ) where
-    pub operation_fits_lem : operation_fits h links port ≡ true → is_exempt h.operation ≡ false → is_operation_word (port_operation_at links port) ≡ true
-    operation_fits_lem f e = rw e at f
+    pub operation_fits_law : operation_fits h links port ≡ true → is_exempt h.operation ≡ false → is_operation_word (port_operation_at links port) ≡ true
+    operation_fits_law f e = rw e at f
 
     module _ (c : ℕ) where
       pub no_header : stored_in_range h ≡ false → false ≡ header_fits h port c links

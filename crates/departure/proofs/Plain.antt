@@ -22,10 +22,10 @@ use Rattle.cells.specs.Stored.{stored_operation}
 use Rattle.cells.specs.declared.stored.StoredHeader.{StoredHeader}
 use Rattle.cells.proofs.Operations.{operated}
 use Rattle.settings.specs.Operations.{operation_in, is_exempt}
-use Rattle.settings.proofs.OperationLaws.{kind_in_lem}
+use Rattle.settings.proofs.OperationLaws.{kind_in_law}
 use Rattle.settings.specs.Records.{port_operation_at}
 use Rattle.departure.specs.Frames.{is_none, leaves_plain, leaving_of, stored_at, operation_of_port, leaving_from, written, finished}
-use Rattle.departure.proofs.Headers.{operation_at_lem}
+use Rattle.departure.proofs.Headers.{operation_at_law}
 
 -- ---- the kinds by number
 
@@ -44,14 +44,14 @@ module _ (h : StoredHeader) where
 
   -- a word's kind is none just if its lowest three bits are 0
   word_none : (w : ℕ) → eqb (w % 8) 0 ≡ is_none (operation_of (operation_in w)).kind
-  word_none w = kind_none (w % 8) ∙ ap is_none (sym (kind_in_lem w))
+  word_none w = kind_none (w % 8) ∙ ap is_none (sym (kind_in_law w))
 
   plain_kinds : (links : List ℕ) (port : ℕ) → is_exempt h.operation ≡ false
       → (eqb (h.operation % 8) 0 && eqb (port_operation_at links port % 8) 0) ≡ leaves_plain h (operation_of_port links port)
   unfolding leaves_plain
   plain_kinds links port e =
       let own : eqb (port_operation_at links port % 8) 0 ≡ is_none (operation_of_port links port).kind =
-      word_none (port_operation_at links port) ∙ ap (λ (n : OperationNumbers). is_none (operation_of n).kind) (operation_at_lem links port) in
+      word_none (port_operation_at links port) ∙ ap (λ (n : OperationNumbers). is_none (operation_of n).kind) (operation_at_law links port) in
       rw (e, operated h e, word_none h.operation, own)
 
   -- the kinds tell it for every frame: on a BPDU no operation acts at all

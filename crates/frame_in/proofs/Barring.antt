@@ -124,12 +124,12 @@ module _ (links addresses frame : List ℕ) (n port : ℕ) where
       not_barred : first (port_rules ((settings_of links).port port) (length (tags_of frame))) ≡ none
       not_barred = no_reason _ arrival.barred o.arrival_is.barred free
 
-      vid_at_lem : arrival.vid ≡ f.vid
-      vid_at_lem = o.arrival_is.vid ∙ sym (facts_vid links addresses frame port)
+      vid_at_law : arrival.vid ≡ f.vid
+      vid_at_law = o.arrival_is.vid ∙ sym (facts_vid links addresses frame port)
 
       table_meets : met_entering links addresses port frame ≡ met_table links addresses port frame (found_vlan links arrival.vid)
       unfolding met_entering unless_dropped
-      table_meets = rw not_barred (ap (λ (v : ℕ). met_table links addresses port frame (found_vlan links v)) (sym vid_at_lem))
+      table_meets = rw not_barred (ap (λ (v : ℕ). met_table links addresses port frame (found_vlan links v)) (sym vid_at_law))
 
       pub table_damaged : found_vlan links arrival.vid ≡ Damaged → Judged links addresses frame n port damaged_plan
       unfolding met_table
@@ -141,15 +141,15 @@ module _ (links addresses frame : List ℕ) (n port : ℕ) where
 
       not_there : found_vlan links arrival.vid ≡ Nowhere → f.there ≡ false
       unfolding settings_of
-      not_there e = facts_there links addresses frame port ∙ ap (is_there (vlans_of links)) (sym vid_at_lem) ∙ found_nowhere links arrival.vid e
+      not_there e = facts_there links addresses frame port ∙ ap (is_there (vlans_of links)) (sym vid_at_law) ∙ found_nowhere links arrival.vid e
 
       seven : eqb arrival.vid 4095 ≡ true → first (rows_of entering f) ≡ some vid4095
       unfolding later_rules first
-      seven e = rules_later links addresses frame port not_barred ∙ rw (ap (λ (v : ℕ). eqb v 4095) (sym vid_at_lem) ∙ e)
+      seven e = rules_later links addresses frame port not_barred ∙ rw (ap (λ (v : ℕ). eqb v 4095) (sym vid_at_law) ∙ e)
 
       eight : eqb arrival.vid 4095 ≡ false → found_vlan links arrival.vid ≡ Nowhere → first (rows_of entering f) ≡ some no_vlan
       unfolding later_rules first
-      eight e a = rules_later links addresses frame port not_barred ∙ rw (ap (λ (v : ℕ). eqb v 4095) (sym vid_at_lem) ∙ e, not_there a)
+      eight e a = rules_later links addresses frame port not_barred ∙ rw (ap (λ (v : ℕ). eqb v 4095) (sym vid_at_law) ∙ e, not_there a)
 
       absent_seven : eqb arrival.vid 4095 ≡ true → absent_reason arrival.vid ≡ reason_number vid4095
       unfolding absent_reason reason_number
@@ -172,19 +172,19 @@ module _ (links addresses frame : List ℕ) (n port : ℕ) where
 
         entry_there : f.there ≡ true
         unfolding settings_of
-        entry_there = facts_there links addresses frame port ∙ ap (is_there (vlans_of links)) (sym vid_at_lem) ∙ (found_there links arrival.vid e found).is_there_lem
+        entry_there = facts_there links addresses frame port ∙ ap (is_there (vlans_of links)) (sym vid_at_law) ∙ (found_there links arrival.vid e found).is_there_law
 
-        entry_is_lem : f.vlan ≡ vlan_entry (vlan_at links e)
+        entry_is_law : f.vlan ≡ vlan_entry (vlan_at links e)
         unfolding settings_of
-        entry_is_lem = facts_vlan links addresses frame port ∙ ap (vlan_of (vlans_of links)) (sym vid_at_lem) ∙ (found_there links arrival.vid e found).is_entry
+        entry_is_law = facts_vlan links addresses frame port ∙ ap (vlan_of (vlans_of links)) (sym vid_at_law) ∙ (found_there links arrival.vid e found).is_entry
 
         entry_vid : (vlan_at links e).vid ≡ f.vid
         unfolding vlan_in
-        entry_vid = (found_there links arrival.vid e found).has_vid ∙ vid_at_lem
+        entry_vid = (found_there links arrival.vid e found).has_vid ∙ vid_at_law
 
-        operation_at_lem : operation_for links f.vid ≡ get_or links (vlan_operation_word e) 0
+        operation_at_law : operation_for links f.vid ≡ get_or links (vlan_operation_word e) 0
         unfolding operation_found
-        operation_at_lem = ap (operation_for links) (sym vid_at_lem) ∙ rw found
+        operation_at_law = ap (operation_for links) (sym vid_at_law) ∙ rw found
 
         pub in_entry : InEntry links addresses frame n port arrival e
         in_entry =
@@ -194,9 +194,9 @@ module _ (links addresses frame : List ℕ) (n port : ℕ) where
               arrival_is = o.arrival_is;
               not_barred = not_barred;
               there = entry_there;
-              vlan_is_lem = entry_is_lem;
+              vlan_is_law = entry_is_law;
               vid_is = entry_vid;
-              operation_is_lem = operation_at_lem;
+              operation_is_law = operation_at_law;
               entry_small = let t = found_there links arrival.vid e found in omega (arith, t.few, t.in_use);
               in_range = found_in_range links arrival.vid e found;
             }
@@ -226,7 +226,7 @@ module _ (links addresses frame : List ℕ) (n port : ℕ) where
       unfolding vlan_entry
       member_is =
           ap f.vlan.member (facts_port links addresses frame port)
-          ∙ ap (λ (v : Vlan). v.member port) i.vlan_is_lem
+          ∙ ap (λ (v : Vlan). v.member port) i.vlan_is_law
           ∙ ap (λ (m : ℕ). bit m port) members_are
 
       member_rule : (b : Bool) → bit vlan.members port ≡ b → first (rows_of entering f) ≡ (if not b then some no_member else none)
@@ -250,7 +250,7 @@ module _ (links addresses frame : List ℕ) (n port : ℕ) where
             entered = member_rule true q;
             arrival_is = i.arrival_is;
             not_barred = i.arrival_is.barred ∙ ap outcome_number i.not_barred;
-            vlan_is_lem = i.vlan_is_lem ∙ ap vlan_entry (sym vlan_read);
-            operation_is_lem = read.1 ∙ word_is ∙ sym i.operation_is_lem;
+            vlan_is_law = i.vlan_is_law ∙ ap vlan_entry (sym vlan_read);
+            operation_is_law = read.1 ∙ word_is ∙ sym i.operation_is_law;
             in_range = ap vlan_in_range vlan_read ∙ entry_good;
           }

@@ -50,10 +50,10 @@ falls_none m a e =
     each_none (bump_at 17) (less m.candidates m.passing) a (ap (λ (x : ℕ). less x m.passing) p ∙ less_itself m.passing)
     ∙ each_none (bump_at 18) (less m.passing m.left) _ (ap (λ (x : ℕ). less x m.left) q ∙ less_itself m.left)
 
-pub counted_with_lem : (outcome port : ℕ) (unlearned : Bool) (m : Masks) (a : List ℕ) {b c d e : List ℕ} → b ≡ bumped port 0 a → c ≡ count_if unlearned port b
+pub counted_with_law : (outcome port : ℕ) (unlearned : Bool) (m : Masks) (a : List ℕ) {b c d e : List ℕ} → b ≡ bumped port 0 a → c ≡ count_if unlearned port b
     → d ≡ counted_falls m c → e ≡ bumped port outcome d → e ≡ counted_with outcome port unlearned m a
 unfolding counted_with counter_number
-counted_with_lem outcome port unlearned m a p q r s =
+counted_with_law outcome port unlearned m a p q r s =
     s ∙ ap (bumped port outcome) (r ∙ ap (counted_falls m) (q ∙ ap (count_if unlearned port) p))
 
 -- ---- addresses

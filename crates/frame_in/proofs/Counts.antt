@@ -49,7 +49,7 @@ module _ (test : ℕ → Test) (m : Masks) (are : MasksAre test m) where
 
   at_is : (r : ℕ) → r < 5 → (l : List ℕ) → counted (test_event r (test r)) l ≡ at r l
   unfolding both_at
-  at_is r h l = rw (are.state_out_lem r h, are.queue_out_lem r h) (test_counted r (test r) l)
+  at_is r h l = rw (are.state_out_law r h, are.queue_out_law r h) (test_counted r (test r) l)
 
   tests_step : (r : ℕ) (rs : List ℕ) (l : List ℕ) → r < 5 → counted (test_events test (r ∷ rs)) l ≡ counted (test_events test rs) (at r l)
   unfolding test_events

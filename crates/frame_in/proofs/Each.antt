@@ -49,9 +49,9 @@ module _ {A : Type 0} (f : ℕ → A → A) (m : ℕ) where
   unfolding ports_in sift each_port
   each_none x e = let b = bits_zero m e in rw (b 0, b 1, b 2, b 3, b 4)
 
-  pub if_set_lem : (p : ℕ) (x : A) → bit m p ≡ true → f p x ≡ if_set f m p x
+  pub if_set_law : (p : ℕ) (x : A) → bit m p ≡ true → f p x ≡ if_set f m p x
   unfolding if_set
-  if_set_lem p x e = rw e
+  if_set_law p x e = rw e
 
   pub if_clear : (p : ℕ) (x : A) → bit m p ≡ false → x ≡ if_set f m p x
   unfolding if_set

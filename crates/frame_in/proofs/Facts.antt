@@ -86,10 +86,10 @@ module _ (links addresses frame : List ℕ) (port : ℕ) where
   -- ---- a BPDU to port 4
 
   module _ (bpdu : (facts_in links addresses port frame).bpdu ≡ true) where
-    pub bpdu_queue_lem : (facts_in links addresses port frame).queue ≡ 3
+    pub bpdu_queue_law : (facts_in links addresses port frame).queue ≡ 3
     unfolding facts_in facts_of
-    bpdu_queue_lem = rw bpdu
+    bpdu_queue_law = rw bpdu
 
-    pub bpdu_test_lem : (facts_in links addresses port frame).test ≡ bpdu_test (settings_of links)
+    pub bpdu_test_law : (facts_in links addresses port frame).test ≡ bpdu_test (settings_of links)
     unfolding facts_in facts_of
-    bpdu_test_lem = rw bpdu
+    bpdu_test_law = rw bpdu

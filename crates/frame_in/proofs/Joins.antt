@@ -50,9 +50,9 @@ module _ (n k : ℕ) (l : List ℕ) where
       (λ b. absurd (enough_not_none (sym (rw (a, b) at h)))))
       (λ a. absurd (enough_not_damaged (sym (rw a at h))))
 
-  pub no_room_lem : room_for n k l ≡ NoRoom → ltb (free_count l) k ≡ true
+  pub no_room_law : room_for n k l ≡ NoRoom → ltb (free_count l) k ≡ true
   unfolding room_for
-  no_room_lem h =
+  no_room_law h =
       on (leb (free_count l) n)
       (λ a. on (leb k (free_count l))
       (λ b. on (ltb (first_free l) n)

@@ -43,7 +43,7 @@ use Rattle.frame_in.proofs.Facts.{facts_room}
 use Rattle.frame_in.proofs.Each.{each_none}
 use Rattle.frame_in.proofs.Counts.{tests_counted, left_is, none_is}
 use Rattle.arrival.proofs.RoomOutcomes.{none_left, room_damaged, room_none, room_enough, queues_damaged}
-use Rattle.frame_in.proofs.Joins.{enough, no_room_lem}
+use Rattle.frame_in.proofs.Joins.{enough, no_room_law}
 use Rattle.frame_in.proofs.Outcomes.{not_zero, dropped_carried, queued_carried}
 
 reason_small : (r : Reason) → reason_number r < 32
@@ -179,13 +179,13 @@ module _ (links addresses frame : List ℕ) (n port : ℕ) (lent : Lent links ad
     twelve e = drop_offer no_port_left (reason_none e) (met_is ∙ rw e)
 
     module _ (e : eqb o.masks.left 0 ≡ false) where
-      met_room_lem : (room : Room) → room_for n (cells (length frame)) links ≡ room → met links addresses port frame ≡ room_met room (all_waiting_in_range links)
+      met_room_law : (room : Room) → room_for n (cells (length frame)) links ≡ room → met links addresses port frame ≡ room_met room (all_waiting_in_range links)
       unfolding met_room
-      met_room_lem room h = met_is ∙ rw (e, h)
+      met_room_law room h = met_is ∙ rw (e, h)
 
       thirteen : room_for n (cells (length frame)) links ≡ NoRoom → Judged links addresses frame n port (offer_plan 13 lesson o 0)
       unfolding reason_number room_met
-      thirteen h = drop_offer no_room (reason_full e (no_room_lem n (cells (length frame)) links h)) (met_room_lem NoRoom h)
+      thirteen h = drop_offer no_room (reason_full e (no_room_law n (cells (length frame)) links h)) (met_room_law NoRoom h)
 
       queued_ready : room_for n (cells (length frame)) links ≡ Enough → all_waiting_in_range links ≡ true → (memory : List ℕ) → length memory ≡ cell_bytes n
           → Ready n memory links frame (offer_plan 0 lesson o o.masks.left)
@@ -209,7 +209,7 @@ module _ (links addresses frame : List ℕ) (n port : ℕ) (lent : Lent links ad
       unfolding room_met
       queued_judged h r =
           record {
-            damage = sym (met_room_lem Enough h ∙ ap not r);
+            damage = sym (met_room_law Enough h ∙ ap not r);
             right = λ _. record {
               ready = queued_ready h r;
               carried = queued_carried links addresses frame n port (offer_plan 0 lesson o o.masks.left) offer_tests taught.lesson_is
@@ -219,11 +219,11 @@ module _ (links addresses frame : List ℕ) (n port : ℕ) (lent : Lent links ad
 
       damaged_room : room_for n (cells (length frame)) links ≡ Damaged → Judged links addresses frame n port damaged_plan
       unfolding room_met
-      damaged_room h = damaged_judged (met_room_lem Damaged h)
+      damaged_room h = damaged_judged (met_room_law Damaged h)
 
       damaged_queues : room_for n (cells (length frame)) links ≡ Enough → all_waiting_in_range links ≡ false → Judged links addresses frame n port damaged_plan
       unfolding room_met
-      damaged_queues h r = damaged_judged (met_room_lem Enough h ∙ ap not r)
+      damaged_queues h r = damaged_judged (met_room_law Enough h ∙ ap not r)
 
     pub offer_judged : Judged links addresses frame n port (plan_offered n links (length frame) lesson o)
     offer_judged =

@@ -91,9 +91,9 @@ module _ (links addresses frame : List ℕ) (n port : ℕ) where
     ten e = choosing_judged port_learning (learning_met e) (rule_ten e)
 
     module _ (not_learning : learning ≡ false) where
-      room_met_lem : met links addresses port frame ≡ met_room n links (length frame) o.masks.left
+      room_met_law : met links addresses port frame ≡ met_room n links (length frame) o.masks.left
       unfolding met_tests
-      room_met_lem =
+      room_met_law =
           t.way.meets_is
           ∙ rw (sym t.learning_is ∙ not_learning)
           (ap (λ (c : ℕ). met_room c links (length frame) o.masks.left) (sym t.way.lent.count))
@@ -102,16 +102,16 @@ module _ (links addresses frame : List ℕ) (n port : ℕ) where
       any_is b e = sym t.masks_are.any ∙ ap not e ∙ twice b
 
       module _ (none_chosen : o.masks.candidates ≡ 0) where
-        no_candidate_lem : any_candidate f.test ≡ false
-        no_candidate_lem = any_is false (eq-eqb o.masks.candidates 0 none_chosen)
+        no_candidate_law : any_candidate f.test ≡ false
+        no_candidate_law = any_is false (eq-eqb o.masks.candidates 0 none_chosen)
 
         rule_eleven : first (rows_of choosing f) ≡ some no_candidate
         unfolding rows_of lines_in sift part_number reason_table first
-        rule_eleven = rw (sym t.learning_is ∙ not_learning, no_candidate_lem)
+        rule_eleven = rw (sym t.learning_is ∙ not_learning, no_candidate_law)
 
         eleven_met : met links addresses port frame ≡ false
         unfolding met_room
-        eleven_met = room_met_lem ∙ rw (none_left f.test o.masks t.masks_are no_candidate_lem)
+        eleven_met = room_met_law ∙ rw (none_left f.test o.masks t.masks_are no_candidate_law)
 
         pub eleven : Judged links addresses frame n port (lesson_plan 11 l)
         unfolding reason_number
@@ -131,4 +131,4 @@ module _ (links addresses frame : List ℕ) (n port : ℕ) where
         pub tested_offered : Judged links addresses frame n port (plan_offered n links (length frame) l o)
         tested_offered =
             offer_judged links addresses frame n port t.way.lent counts (reason_queueing f t.way.read t.ordinary t.entered chosen) l o taught
-            t.masks_are t.queue_is t.queue_small t.header_is t.way.longest room_met_lem
+            t.masks_are t.queue_is t.queue_small t.header_is t.way.longest room_met_law

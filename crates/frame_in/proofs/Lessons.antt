@@ -164,10 +164,10 @@ module _ (links m frame : List ℕ) (port gid : ℕ) (gid_is : (facts_in links m
           ∙ learned _ (after_single e))
 
 -- the lesson of the plan
-pub lesson_in_lem : (lesson : Lesson) (port : ℕ) (m : List ℕ) (gid : ℕ) (frame : List ℕ) → lesson.learns ≡ true → lesson.source ≡ look_up m (key gid (source frame))
+pub lesson_in_law : (lesson : Lesson) (port : ℕ) (m : List ℕ) (gid : ℕ) (frame : List ℕ) → lesson.learns ≡ true → lesson.source ≡ look_up m (key gid (source frame))
     → lesson.key ≡ key gid (source frame) → lesson.destination ≡ destination_look_up m gid (destination frame) → lesson_by lesson port m ≡ (not (lesson_in m gid port frame).0, (lesson_in m gid port frame).1)
 unfolding lesson_by learned_lesson lesson_in
-lesson_in_lem lesson port m gid frame a b c d = rw (a, b, c, d) (taken (learned_by (look_up m (key gid (source frame))) (key gid (source frame)) port (marked_by (destination_look_up m gid (destination frame)) m)))
+lesson_in_law lesson port m gid frame a b c d = rw (a, b, c, d) (taken (learned_by (look_up m (key gid (source frame))) (key gid (source frame)) port (marked_by (destination_look_up m gid (destination frame)) m)))
   where
     taken : (p : Bool × List ℕ) → learned_lesson p ≡ (not p.0, p.1)
     taken (x, y) = refl

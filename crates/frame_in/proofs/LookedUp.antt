@@ -41,9 +41,9 @@ use Rattle.frame_in.specs.Stages.{Member, Tested}
 use Rattle.settings.proofs.PortLaws.{number_back}
 use Rattle.arrival.specs.Arrivals.{barred_by}
 use Rattle.arrival.proofs.Arrivals.{not_open}
-use Rattle.arrival.proofs.LinkWords.{port_is_lem, queue_is, masks_in_lem}
+use Rattle.arrival.proofs.LinkWords.{port_is_law, queue_is, masks_in_law}
 use Rattle.frame_in.proofs.Facts.{facts_bytes, facts_default, facts_gid, facts_state, ordinary_queue, ordinary_test}
-use Rattle.frame_in.proofs.Lessons.{chosen_is, destination_place, placed_is, lesson_in_lem}
+use Rattle.frame_in.proofs.Lessons.{chosen_is, destination_place, placed_is, lesson_in_law}
 use Rattle.frame_in.proofs.Judgements.{damaged_judged}
 use Rattle.frame_in.proofs.Steps.{way_on}
 
@@ -66,7 +66,7 @@ module _ (links addresses frame : List ℕ) (n port : ℕ) where
     queue_small = rw m.arrival_is.queue (map_queue_small (map_at links) (queue_pcp ((settings_of links).port port).default (tags_of frame)))
 
     here : (settings_of links).port port ≡ port_of (port_at links port)
-    here = port_is_lem links port (omega (arith, m.way.lent.port_there))
+    here = port_is_law links port (omega (arith, m.way.lent.port_there))
 
     -- no reason of 4 to 6 holds
     learning_at : not (bit (states_at links) port) ≡ is_learning f.state
@@ -78,7 +78,7 @@ module _ (links addresses frame : List ℕ) (n port : ℕ) where
 
     gid_is : f.gid ≡ vlan.gid
     unfolding vlan_entry
-    gid_is = facts_gid links addresses frame port ∙ ap (λ (v : Vlan). v.gid) m.vlan_is_lem
+    gid_is = facts_gid links addresses frame port ∙ ap (λ (v : Vlan). v.gid) m.vlan_is_law
 
     pub gid_small : vlan.gid ≤ 15
     gid_small = (vlan_range (entry_is vlan) m.in_range).gid
@@ -88,7 +88,7 @@ module _ (links addresses frame : List ℕ) (n port : ℕ) where
 
     members_are : (r : ℕ) → f.vlan.member r ≡ bit vlan.members r
     unfolding vlan_entry
-    members_are r = ap (λ (v : Vlan). v.member r) m.vlan_is_lem
+    members_are r = ap (λ (v : Vlan). v.member r) m.vlan_is_law
 
     module _ (x : ℕ) (x_is : x ≡ address_at frame 0) (d : LookUp) (d_is : d ≡ destination_look_up addresses vlan.gid x) where
       d_at : d ≡ destination_look_up addresses vlan.gid (destination frame)
@@ -144,7 +144,7 @@ module _ (links addresses frame : List ℕ) (n port : ℕ) where
               unfolding masks_in
               masks_right =
                   rw (ordinary_test links addresses frame port m.ordinary, t_at, ← queue_for)
-                  (masks_in_lem links f.vlan f.chosen port arrival.queue vlan.members chosen members_small queue_small members_are
+                  (masks_in_law links f.vlan f.chosen port arrival.queue vlan.members chosen members_small queue_small members_are
                   (λ r h. chosen_is links addresses frame port vlan.gid gid_is (d_damaged false whole) r h))
 
               abbrev lesson_made : Lesson
@@ -154,13 +154,13 @@ module _ (links addresses frame : List ℕ) (n port : ℕ) where
               offer_made =
                   record { masks = t; queue = arrival.queue; header = record { length = length frame; default = arrival.default; operation = vlan.operation } }
 
-              default_number_lem : arrival.default ≡ default_number f.default
-              default_number_lem =
+              default_number_law : arrival.default ≡ default_number f.default
+              default_number_law =
                   sym (number_back arrival.default) ∙ ap default_number (m.arrival_is.default ∙ sym (facts_default links addresses frame port))
 
               header_made : offer_made.header ≡ stored_header (operation_for links f.vid) (frame_of f)
               unfolding stored_header frame_of
-              header_made = rw (m.ordinary, facts_bytes links addresses frame port, default_number_lem, m.operation_is_lem)
+              header_made = rw (m.ordinary, facts_bytes links addresses frame port, default_number_law, m.operation_is_law)
 
               learns_it : learns f ≡ true
               learns_it = (learns_exactly f).1 (m.ordinary, record { read = m.way.read; entered = λ _. m.entered })
@@ -169,16 +169,16 @@ module _ (links addresses frame : List ℕ) (n port : ℕ) where
               unfolding learned_in
               learned_made = rw (learns_it, gid_is)
 
-              not_learned_lem : not (lesson_in addresses vlan.gid port frame).0 ≡ is_not_learned f (table_of addresses)
+              not_learned_law : not (lesson_in addresses vlan.gid port frame).0 ≡ is_not_learned f (table_of addresses)
               unfolding is_not_learned
-              not_learned_lem =
+              not_learned_law =
                   rw (learns_it, placed_is links addresses frame port vlan.gid gid_is (d_damaged false whole) m.way.lent.places (g_damaged false sound)) (twice _)
 
               lesson_right : lesson_by lesson_made port addresses
                   ≡ (is_not_learned f (table_of addresses), learned_in links addresses port frame)
               lesson_right =
-                  lesson_in_lem lesson_made port addresses vlan.gid frame refl g_at k_at d_at
-                  ∙ rw (not_learned_lem, sym learned_made)
+                  lesson_in_law lesson_made port addresses vlan.gid frame refl g_at k_at d_at
+                  ∙ rw (not_learned_law, sym learned_made)
 
               pub as_tested : k < 2 ^ 52 → (o : Bool) → o ≡ bit states port → Tested links addresses frame n port (not o) lesson_made offer_made
               as_tested small o o_is =

@@ -120,9 +120,9 @@ module _ (links addresses frame : List ℕ) (n port : ℕ) (plan : Plan)
     unfolding size
     size_is = ap (λ (b : List ℕ). cells (length b)) bytes_are
 
-    queue_at_lem : plan.queue ≡ (frame_of f).queue
+    queue_at_law : plan.queue ≡ (frame_of f).queue
     unfolding frame_of
-    queue_at_lem = queue_is
+    queue_at_law = queue_is
 
     queue_answer : done_with plan.reason plan.left ≡ answer_for (outcome_of f)
     unfolding answer_for
@@ -143,7 +143,7 @@ module _ (links addresses frame : List ℕ) (n port : ℕ) (plan : Plan)
     queue_joined : pushes ≡ joined_for (cell_count links) (outcome_of f) links
     unfolding joined_for
     queue_joined =
-        rw (outcome, size_is, ports_are, taken_left, queue_at_lem, count_is)
+        rw (outcome, size_is, ports_are, taken_left, queue_at_law, count_is)
         (sym (pushed_each (cell_count links) (frame_of f).queue (first_free links) (ports_left f.test) (taken (cell_count links) (cells (length frame)) (mask (ports_left f.test)) links)))
 
     queue_counts : (l : List ℕ) → each_port (bump_at 16) (ports_in plan.left) (bumped port 14 (so_far l))

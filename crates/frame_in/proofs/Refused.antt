@@ -12,7 +12,7 @@ use Rattle.rules.proofs.Choice.{and_left, and_right}
 use Rattle.layout.specs.Places.{link_words, cell_bytes}
 use Rattle.layout.specs.declared.answers.Answer.{Answer}
 use Rattle.layout.specs.Lengths.{cell_count, links_fit, cells_fit, addresses_fit}
-use Rattle.layout.proofs.Fits.{links_fit_lem, cells_fit_lem, addresses_fit_lem}
+use Rattle.layout.proofs.Fits.{links_fit_law, cells_fit_law, addresses_fit_law}
 use Rattle.arrival.specs.declared.plan.Plan.{Plan}
 use Rattle.frame_in.specs.Carried.{carried_out, Ready}
 use Rattle.frame_in.specs.Met.{met}
@@ -24,16 +24,16 @@ fit memory links addresses = links_fit links && (cells_fit memory links && addre
 
 module _ (memory links addresses : List ℕ) where
   pub cells_long : fit memory links addresses ≡ true → length memory ≡ cell_bytes (cell_count links)
-  cells_long h = cells_fit_lem memory links (and_left (cells_fit memory links) (addresses_fit addresses) (and_right (links_fit links) _ h))
+  cells_long h = cells_fit_law memory links (and_left (cells_fit memory links) (addresses_fit addresses) (and_right (links_fit links) _ h))
 
   pub lent_is : (n port : ℕ) → fit memory links addresses ≡ true → n ≡ cell_count links → port ≤ 4 → Lent links addresses n port
   lent_is n port h e p =
-      let l = links_fit_lem links (and_left (links_fit links) _ h) in
+      let l = links_fit_law links (and_left (links_fit links) _ h) in
       record {
         count = e;
         most = omega (arith, l.most, e);
         long = l.long ∙ ap link_words (sym e);
-        places = addresses_fit_lem addresses (and_right (cells_fit memory links) (addresses_fit addresses) (and_right (links_fit links) _ h));
+        places = addresses_fit_law addresses (and_right (cells_fit memory links) (addresses_fit addresses) (and_right (links_fit links) _ h));
         port_there = p;
       }
 

@@ -42,9 +42,9 @@ use Rattle.frame_in.specs.Met.{unless_dropped, bpdu_masks, met_entering, met_fra
 use Rattle.frame_in.specs.Call.{facts_in}
 use Rattle.frame_in.specs.Judged.{Lent, Judged, Way}
 use Rattle.frame_in.specs.Stages.{PastEarly, AsBpdu, NoBpdu, Ordinary}
-use Rattle.settings.proofs.PortLaws.{default_in_lem, number_back}
-use Rattle.arrival.proofs.LinkWords.{port_is_lem, handling_is, bpdu_masks_in}
-use Rattle.frame_in.proofs.Facts.{facts_bytes, facts_default, facts_bpdu, bpdu_queue_lem, bpdu_test_lem}
+use Rattle.settings.proofs.PortLaws.{default_in_law, number_back}
+use Rattle.arrival.proofs.LinkWords.{port_is_law, handling_is, bpdu_masks_in}
+use Rattle.frame_in.proofs.Facts.{facts_bytes, facts_default, facts_bpdu, bpdu_queue_law, bpdu_test_law}
 use Rattle.frame_in.proofs.Judgements.{never_zero, damaged_judged, nothing_taught, offer_judged, drop_judged}
 
 -- ---- a reason, or none
@@ -152,9 +152,9 @@ module _ (links addresses frame : List ℕ) (n port : ℕ) where
               way = way_on p.way (port_meets ∙ rw (bpdu_is ∙ e));
               bpdu = bpdu_is ∙ e;
               default_is = ap default_of d
-                  ∙ default_in_lem (state_in (states_at links) port) (operation_in (get_or links (port_operation_word port) 0)) word
+                  ∙ default_in_law (state_in (states_at links) port) (operation_in (get_or links (port_operation_word port) 0)) word
                   ∙ ap (λ (w : ℕ). (port_of (port_of_words (states_at links) w (get_or links (port_operation_word port) 0) port)).default) word_is
-                  ∙ ap (λ (x : Port). x.default) (sym (port_is_lem links port (omega (arith, p.way.lent.port_there))));
+                  ∙ ap (λ (x : Port). x.default) (sym (port_is_law links port (omega (arith, p.way.lent.port_there))));
             }
 
         pub no_bpdu : b ≡ false → NoBpdu links addresses frame n port word map
@@ -183,7 +183,7 @@ module _ (links addresses frame : List ℕ) (n port : ℕ) where
     arrival_at : (arrival : Arrival) → ((x : OperationNumbers) → ArrivalIs (port_of (port_in (state_in states port) x word)) map frame arrival)
         → ArrivalIs ((settings_of links).port port) (map_at links) frame arrival
     arrival_at arrival a =
-        rw (port_is_lem links port (omega (arith, o.way.lent.port_there)), ← o.word_is, ← o.map_is, ← states_are)
+        rw (port_is_law links port (omega (arith, o.way.lent.port_there)), ← o.word_is, ← o.map_is, ← states_are)
         (a (operation_in (get_or links (port_operation_word port) 0)))
 
     pub as_ordinary : is_states_word states ≡ true → (arrival : Arrival)
@@ -231,10 +231,10 @@ module _ (links addresses frame : List ℕ) (n port : ℕ) where
 
       bpdu_tests : MasksAre f.test m
       unfolding bpdu_masks
-      bpdu_tests = rw (bpdu_test_lem links addresses frame port a.bpdu, masks_at) (bpdu_masks_in links)
+      bpdu_tests = rw (bpdu_test_law links addresses frame port a.bpdu, masks_at) (bpdu_masks_in links)
 
       pub bpdu_offered : Judged links addresses frame n port (plan_offered n links (length frame) no_lesson bpdu_offer)
       bpdu_offered =
           offer_judged links addresses frame n port a.way.lent bpdu_counts (reason_bpdu f a.way.read a.bpdu) no_lesson bpdu_offer
           (nothing_taught links addresses frame n port a.way.lent (bpdu_learns_nothing f a.bpdu)) bpdu_tests
-          (sym (bpdu_queue_lem links addresses frame port a.bpdu)) (omega arith) bpdu_header a.way.longest bpdu_meets
+          (sym (bpdu_queue_law links addresses frame port a.bpdu)) (omega arith) bpdu_header a.way.longest bpdu_meets

@@ -91,15 +91,15 @@ module _ (links addresses frame : List ℕ) (port : ℕ) where
       abbrev rest : Bool
       rest = if f.bpdu then met_bpdu links frame else met_frame links addresses port frame
 
-      port_met_lem : met_port links addresses port frame ≡ false
+      port_met_law : met_port links addresses port frame ≡ false
       unfolding met unless_dropped
-      port_met_lem = rw passed at fine
+      port_met_law = rw passed at fine
 
       way_met : rest ≡ false
       unfolding met_port
       way_met =
           or_right (not (is_map_word (map_at links))) rest
-          (or_right (not (is_vid_word (get_or links (port_word port) 0))) (not (is_map_word (map_at links)) || rest) port_met_lem)
+          (or_right (not (is_vid_word (get_or links (port_word port) 0))) (not (is_map_word (map_at links)) || rest) port_met_law)
 
       entering_met : met_entering links addresses port frame ≡ false
       unfolding met_frame
@@ -122,18 +122,18 @@ module _ (links addresses frame : List ℕ) (port : ℕ) where
         unfolding met_table
         entry_met = rw found at table_met
 
-        entry_is_lem : f.vlan ≡ vlan_entry (vlan_at links e)
+        entry_is_law : f.vlan ≡ vlan_entry (vlan_at links e)
         unfolding settings_of
-        entry_is_lem = facts_vlan links addresses frame port ∙ (found_there links f.vid e found).is_entry
+        entry_is_law = facts_vlan links addresses frame port ∙ (found_there links f.vid e found).is_entry
 
         member_bit : bit (vlan_at links e).members port ≡ true
         unfolding vlan_entry
         member_bit =
-            sym (ap (λ (v : Vlan). v.member port) entry_is_lem) ∙ sym (ap f.vlan.member (facts_port links addresses frame port)) ∙ known.member
+            sym (ap (λ (v : Vlan). v.member port) entry_is_law) ∙ sym (ap f.vlan.member (facts_port links addresses frame port)) ∙ known.member
 
         gid_is : f.gid ≡ (vlan_at links e).gid
         unfolding vlan_entry
-        gid_is = facts_gid links addresses frame port ∙ ap (λ (v : Vlan). v.gid) entry_is_lem
+        gid_is = facts_gid links addresses frame port ∙ ap (λ (v : Vlan). v.gid) entry_is_law
 
         member_met : met_member links addresses port frame (vlan_at links e) ≡ false
         unfolding met_entry

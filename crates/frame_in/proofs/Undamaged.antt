@@ -42,8 +42,8 @@ use Rattle.arrival.specs.Room.{room_met, met_room}
 use Rattle.frame_in.specs.Met.{unless_dropped, bpdu_masks, met_tests, met_member, met_entry, met_table, met_entering, met_frame, met_bpdu, met_port, met}
 use Rattle.frame_in.specs.Facts.{facts_in}
 use Rattle.frame_in.specs.InRange.{InRange}
-use Rattle.arrival.proofs.LinkWords.{port_is_lem, queue_is}
-use Rattle.frame_in.proofs.Facts.{ordinary_queue, bpdu_queue_lem}
+use Rattle.arrival.proofs.LinkWords.{port_is_law, queue_is}
+use Rattle.frame_in.proofs.Facts.{ordinary_queue, bpdu_queue_law}
 
 pass_over : (o : Option Reason) (m : Bool) → m ≡ false → unless_dropped o m ≡ false
 unfolding unless_dropped
@@ -58,9 +58,9 @@ on_room Enough a b c = c refl
 module _ (links addresses : List ℕ) (good : InRange links addresses) where
   -- ---- room
 
-  all_in_range_lem : all_waiting_in_range links ≡ true
+  all_in_range_law : all_waiting_in_range links ≡ true
   unfolding all_waiting_in_range waiting_in_range
-  all_in_range_lem =
+  all_in_range_law =
       rw (
         lt-ltb (waiting_of links 0) 16 (good.queues 0 (omega arith)),
         lt-ltb (waiting_of links 1) 16 (good.queues 1 (omega arith)),
@@ -77,29 +77,29 @@ module _ (links addresses : List ℕ) (good : InRange links addresses) where
       (λ b. on_room (room_for (cell_count links) (cells long) links)
       (λ e. absurd (good.cells _ e))
       (λ e. rw (b, e))
-      (λ e. rw (b, e, all_in_range_lem)))
+      (λ e. rw (b, e, all_in_range_law)))
 
   -- ---- the way of a frame
 
   module _ (frame : List ℕ) (each : Bytes frame) (port : ℕ) (there : port ≤ 4) where
     port_pcp : ((settings_of links).port port).default.pcp ≤ 7
     unfolding port_of port_in
-    port_pcp = rw (port_is_lem links port (omega arith)) (omega arith)
+    port_pcp = rw (port_is_law links port (omega arith)) (omega arith)
 
     pcp_of : (d : Header) (tags : List Tag) → d.pcp ≤ 7 → Each IsTag tags → queue_pcp d tags ≤ 7
     unfolding queue_pcp header_at
     pcp_of d [] h e = h
     pcp_of d (t ∷ ts) h (also i e) = omega (arith, i.header.pcp)
 
-    queue_in_lem : (pcp : ℕ) → pcp ≤ 7 → (settings_of links).queue_of pcp ≤ 3
-    queue_in_lem pcp h = rw (queue_is links pcp h) (map_queue_small (map_at links) pcp)
+    queue_in_law : (pcp : ℕ) → pcp ≤ 7 → (settings_of links).queue_of pcp ≤ 3
+    queue_in_law pcp h = rw (queue_is links pcp h) (map_queue_small (map_at links) pcp)
 
     pub queue_small : (facts_in links addresses port frame).queue ≤ 3
     queue_small =
         on (facts_in links addresses port frame).bpdu
-        (λ b. rw (bpdu_queue_lem links addresses frame port b) (omega arith))
+        (λ b. rw (bpdu_queue_law links addresses frame port b) (omega arith))
         (λ b. rw (ordinary_queue links addresses frame port b)
-        (queue_in_lem _ (pcp_of ((settings_of links).port port).default (tags_of frame) port_pcp (decoded_are_tags frame each))))
+        (queue_in_law _ (pcp_of ((settings_of links).port port).default (tags_of frame) port_pcp (decoded_are_tags frame each))))
 
     look_up_whole : (gid address : ℕ) → damaged (destination_look_up addresses gid address) ≡ false
     unfolding destination_look_up
@@ -123,7 +123,7 @@ module _ (links addresses : List ℕ) (good : InRange links addresses) where
     unfolding met_table
     table_whole vid =
         on_found (found_vlan links vid)
-        (λ e. absurd (found_undamaged links vid good.vlan_count_lem good.vlans e))
+        (λ e. absurd (found_undamaged links vid good.vlan_count_law good.vlans e))
         (λ e. rw e)
         (λ i e. rw e (entry_whole i (good.vlan_operations i (found_there links vid i e).in_use)))
 

@@ -21,7 +21,7 @@ pub record InRange (links addresses : List ℕ) : Type 0 where
   pub switches : is_switches_word (switches_at links) ≡ true
   pub states : is_states_word (states_at links) ≡ true
   pub ports : (p : ℕ) → p < 5 → is_vid_word (get_or links (port_word p) 0) ≡ true
-  pub vlan_count_lem : vlan_count links ≤ 16
+  pub vlan_count_law : vlan_count links ≤ 16
   pub vlans : (e : ℕ) → e < vlan_count links → is_vid_word (entry_at links e) ≡ true
   pub vlan_operations : (e : ℕ) → e < vlan_count links → is_operation_word (get_or links (vlan_operation_word e) 0) ≡ true
   pub places : all_in_range addresses ≡ true

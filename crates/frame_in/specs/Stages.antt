@@ -59,9 +59,9 @@ module _ (links addresses frame : List ℕ) (n port : ℕ) where
     pub arrival_is : ArrivalIs ((settings_of links).port port) (map_at links) frame arrival
     pub not_barred : first (port_rules ((settings_of links).port port) (length (tags_of frame))) ≡ none
     pub there : (facts_in links addresses port frame).there ≡ true
-    pub vlan_is_lem : (facts_in links addresses port frame).vlan ≡ vlan_entry (vlan_at links entry)
+    pub vlan_is_law : (facts_in links addresses port frame).vlan ≡ vlan_entry (vlan_at links entry)
     pub vid_is : (vlan_at links entry).vid ≡ (facts_in links addresses port frame).vid
-    pub operation_is_lem : operation_for links (facts_in links addresses port frame).vid
+    pub operation_is_law : operation_for links (facts_in links addresses port frame).vid
         ≡ get_or links (vlan_operation_word entry) 0
     pub entry_small : entry < 16
     pub in_range : is_vid_word (entry_at links entry) ≡ true
@@ -73,8 +73,8 @@ module _ (links addresses frame : List ℕ) (n port : ℕ) where
     pub entered : first (rows_of entering (facts_in links addresses port frame)) ≡ none
     pub arrival_is : ArrivalIs ((settings_of links).port port) (map_at links) frame arrival
     pub not_barred : arrival.barred ≡ 0
-    pub vlan_is_lem : (facts_in links addresses port frame).vlan ≡ vlan_entry (entry_is vlan)
-    pub operation_is_lem : vlan.operation ≡ operation_for links (facts_in links addresses port frame).vid
+    pub vlan_is_law : (facts_in links addresses port frame).vlan ≡ vlan_entry (entry_is vlan)
+    pub operation_is_law : vlan.operation ≡ operation_for links (facts_in links addresses port frame).vid
     pub in_range : vlan_in_range (entry_is vlan) ≡ true
 
   -- the look-ups are done, and the ports' tests

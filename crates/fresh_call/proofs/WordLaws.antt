@@ -44,8 +44,8 @@ cell_word (suc left) n cell (suc c) k h hk =
     ∙ cell_word left n (cell + 1) c k (omega arith) hk)
 
 -- word k of the record of cell c
-pub fresh_cell_lem : (n c k : ℕ) → c < n → k < 20 → get_or (fresh_links n) (next_word c + k) 0 ≡ get_or (fresh_cell (fresh_next n c)) k 0
-fresh_cell_lem n c k h hk =
+pub fresh_cell_law : (n c k : ℕ) → c < n → k < 20 → get_or (fresh_links n) (next_word c + k) 0 ≡ get_or (fresh_cell (fresh_next n c)) k 0
+fresh_cell_law n c k h hk =
     let past : next_word c + k ≡ length (fresh_fixed n) + (20 * c + k) = omega (arith, fixed_length n) in
     let same : 0 + c ≡ c = omega arith in
     rw (parts n, past)
@@ -63,18 +63,18 @@ fresh_table n k h =
 
 -- ---- a port's record
 
-port_word_lem : (left p k : ℕ) (rest : List ℕ) → p < left → k < 128
+port_word_law : (left p k : ℕ) (rest : List ℕ) → p < left → k < 128
     → get_or (fresh_ports left ++ rest) (128 * p + k) 0 ≡ get_or fresh_port_record k 0
 unfolding fresh_ports
-port_word_lem zero p k rest h hk = absurd (omega arith)
-port_word_lem (suc left) zero k rest h hk =
+port_word_law zero p k rest h hk = absurd (omega arith)
+port_word_law (suc left) zero k rest h hk =
     let here : 128 * 0 + k ≡ k = omega arith in
     rw (here, append_assoc fresh_port_record (fresh_ports left) rest)
     (get_or-append fresh_port_record (fresh_ports left ++ rest) 0 k (omega (arith, port_length)))
-port_word_lem (suc left) (suc p) k rest h hk =
+port_word_law (suc left) (suc p) k rest h hk =
     let past : 128 * suc p + k ≡ length fresh_port_record + (128 * p + k) = omega (arith, port_length) in
     rw (past, append_assoc fresh_port_record (fresh_ports left) rest)
-    (get_or-append-add fresh_port_record (fresh_ports left ++ rest) (128 * p + k) 0 ∙ port_word_lem left p k rest (omega arith) hk)
+    (get_or-append-add fresh_port_record (fresh_ports left ++ rest) (128 * p + k) 0 ∙ port_word_law left p k rest (omega arith) hk)
 
 -- word k of the record of port p
 pub fresh_record : (n p k : ℕ) → p < 5 → k < 128 → get_or (fresh_links n) (counter_word p k) 0 ≡ get_or fresh_port_record k 0
@@ -85,7 +85,7 @@ fresh_record n p k h hk =
     rw first
     (get_or-append-add (fresh_switch n) (fresh_vlans ++ (fresh_ports 5 ++ fresh_cells n n 0)) (352 + (128 * p + k)) 0
     ∙ rw then
-    (get_or-append-add fresh_vlans (fresh_ports 5 ++ fresh_cells n n 0) (128 * p + k) 0 ∙ port_word_lem 5 p k (fresh_cells n n 0) h hk))
+    (get_or-append-add fresh_vlans (fresh_ports 5 ++ fresh_cells n n 0) (128 * p + k) 0 ∙ port_word_law 5 p k (fresh_cells n n 0) h hk))
 
 pub fresh_counter : (n p k : ℕ) → p < 5 → k < 32 → get_or (fresh_links n) (counter_word p k) 0 ≡ 0
 unfolding fresh_port_record copies
@@ -98,9 +98,9 @@ pub fresh_own : (n p : ℕ) → p < 5 → get_or (fresh_links n) (port_word p) 0
 unfolding fresh_port_record copies
 fresh_own n p h = let at : port_word p ≡ counter_word p 32 = omega arith in rw at (fresh_record n p 32 h (omega arith))
 
-pub fresh_operation_lem : (n p : ℕ) → p < 5 → get_or (fresh_links n) (port_operation_word p) 0 ≡ operation_word fresh_port.operation
+pub fresh_operation_law : (n p : ℕ) → p < 5 → get_or (fresh_links n) (port_operation_word p) 0 ≡ operation_word fresh_port.operation
 unfolding fresh_port_record copies
-fresh_operation_lem n p h = let at : port_operation_word p ≡ counter_word p 33 = omega arith in rw at (fresh_record n p 33 h (omega arith))
+fresh_operation_law n p h = let at : port_operation_word p ≡ counter_word p 33 = omega arith in rw at (fresh_record n p 33 h (omega arith))
 
 -- behind its own words a port's record is 0: no queue waits
 pub fresh_rest : (n p k : ℕ) → p < 5 → k < 94 → get_or (fresh_links n) (counter_word p (34 + k)) 0 ≡ 0

@@ -48,23 +48,23 @@ xor_digit (suc (suc a)) b h k = absurd (omega (arith, h))
 -- ---- each bit of two numbers joined
 
 module _ (a b i : ℕ) where
-  pub bit_and_lem : bit (bit_and a b) i ≡ (bit a i && bit b i)
+  pub bit_and_law : bit (bit_and a b) i ≡ (bit a i && bit b i)
   unfolding bit
-  bit_and_lem =
+  bit_and_law =
       ap (λ (x : ℕ). eqb (x % 2) 1) (and_shr a b i)
       ∙ ap (λ (x : ℕ). eqb x 1) (and_mod (a / 2 ^ i) (b / 2 ^ i) 1)
       ∙ and_digit (a / 2 ^ i % 2) (b / 2 ^ i % 2) (omega arith) (omega arith)
 
-  pub bit_or_lem : bit (bit_or a b) i ≡ (bit a i || bit b i)
+  pub bit_or_law : bit (bit_or a b) i ≡ (bit a i || bit b i)
   unfolding bit
-  bit_or_lem =
+  bit_or_law =
       ap (λ (x : ℕ). eqb (x % 2) 1) (or_shr a b i)
       ∙ ap (λ (x : ℕ). eqb x 1) (or_mod (a / 2 ^ i) (b / 2 ^ i) 1)
       ∙ or_digit (a / 2 ^ i % 2) (b / 2 ^ i % 2) (omega arith) (omega arith)
 
-  pub bit_xor_lem : bit (bit_xor a b) i ≡ differs (bit a i) (bit b i)
+  pub bit_xor_law : bit (bit_xor a b) i ≡ differs (bit a i) (bit b i)
   unfolding bit
-  bit_xor_lem =
+  bit_xor_law =
       ap (λ (x : ℕ). eqb (x % 2) 1) (xor_shr a b i)
       ∙ ap (λ (x : ℕ). eqb x 1) (xor_mod (a / 2 ^ i) (b / 2 ^ i) 1)
       ∙ xor_digit (a / 2 ^ i % 2) (b / 2 ^ i % 2) (omega arith) (omega arith)
@@ -76,7 +76,7 @@ lone false b = refl
 
 pub bit_less : (a b i : ℕ) → bit (less a b) i ≡ (bit a i && not (bit b i))
 unfolding less
-bit_less a b i = bit_xor_lem a (bit_and a b) i ∙ ap (differs (bit a i)) (bit_and_lem a b i) ∙ lone (bit a i) (bit b i)
+bit_less a b i = bit_xor_law a (bit_and a b) i ∙ ap (differs (bit a i)) (bit_and_law a b i) ∙ lone (bit a i) (bit b i)
 
 pub bit_shift : (n k i : ℕ) → bit (n / 2 ^ k) i ≡ bit n (k + i)
 unfolding bit
@@ -175,7 +175,7 @@ and_at false false = refl
 
 pub bit_written : (w i : ℕ) (b : Bool) (j : ℕ) → bit (with_bit w i b) j ≡ (if eqb i j then b else bit w j)
 unfolding with_bit
-bit_written w i true j = bit_or_lem w (2 ^ i) j ∙ or_at (bit w j) (bit (2 ^ i) j) ∙ ap (λ (c : Bool). if c then true else bit w j) (bit_power i j)
+bit_written w i true j = bit_or_law w (2 ^ i) j ∙ or_at (bit w j) (bit (2 ^ i) j) ∙ ap (λ (c : Bool). if c then true else bit w j) (bit_power i j)
 bit_written w i false j =
     bit_less w (2 ^ i) j ∙ and_at (bit w j) (bit (2 ^ i) j) ∙ ap (λ (c : Bool). if c then false else bit w j) (bit_power i j)
 

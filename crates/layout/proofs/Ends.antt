@@ -5,12 +5,12 @@ use Rattle.rules.specs.Refusals.{Lines, memory_length, port_above_four, out_of_r
 use Rattle.layout.specs.Places.{fixed_words}
 use Rattle.layout.specs.declared.answers.Answer.{Answer}
 use Rattle.layout.specs.Lengths.{links_fit}
-use Rattle.layout.proofs.Fits.{links_fit_lem}
+use Rattle.layout.proofs.Fits.{links_fit_law}
 use Rattle.layout.specs.Answers.{refused_by, length_line, or_refused}
 
 -- memory that fits has the fixed part
 pub fixed_part : (l : List ℕ) → links_fit l ≡ true → fixed_words ≤ length l
-fixed_part l h = omega (arith, links_fit_lem l h)
+fixed_part l h = omega (arith, links_fit_law l h)
 
 -- two ranges
 module _ (a b : Bool) where
@@ -50,10 +50,10 @@ module _ (l : List ℕ) (step : Answer × List ℕ) (rest : Lines) {answer : Ans
 
   -- ---- refusal 3
 
-  pub out_of_range_lem : (good : Bool) → good ≡ false → answer ≡ refused_by out_of_range
+  pub out_of_range_law : (good : Bool) → good ≡ false → answer ≡ refused_by out_of_range
       → (answer, l) ≡ or_refused (first (range_line good ∷ rest)) l step
   unfolding first
-  out_of_range_lem good h e = rw (h, e)
+  out_of_range_law good h e = rw (h, e)
 
   pub in_range : (good : Bool) → good ≡ true → {after : List ℕ} → (answer, after) ≡ or_refused (first rest) l step
       → (answer, after) ≡ or_refused (first (range_line good ∷ rest)) l step

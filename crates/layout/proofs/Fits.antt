@@ -11,9 +11,9 @@ pub record LinksFit (links : List ℕ) : Type 0 where
   pub most : cell_count links ≤ most_cells
   pub long : length links ≡ link_words (cell_count links)
 
-pub links_fit_lem : (links : List ℕ) → links_fit links ≡ true → LinksFit links
+pub links_fit_law : (links : List ℕ) → links_fit links ≡ true → LinksFit links
 unfolding links_fit is_cell_count
-links_fit_lem links h =
+links_fit_law links h =
     let count = and_left (leb fewest_cells (cell_count links) && leb (cell_count links) most_cells) _ h in
     record {
       fewest = leb-true fewest_cells (cell_count links) (and_left _ (leb (cell_count links) most_cells) count);
@@ -21,13 +21,13 @@ links_fit_lem links h =
       long = eqb-true (length links) _ (and_right (leb fewest_cells (cell_count links) && leb (cell_count links) most_cells) _ h);
     }
 
-pub cells_fit_lem : (cells links : List ℕ) → cells_fit cells links ≡ true → length cells ≡ cell_bytes (cell_count links)
+pub cells_fit_law : (cells links : List ℕ) → cells_fit cells links ≡ true → length cells ≡ cell_bytes (cell_count links)
 unfolding cells_fit
-cells_fit_lem cells links h = eqb-true (length cells) _ h
+cells_fit_law cells links h = eqb-true (length cells) _ h
 
-pub addresses_fit_lem : (addresses : List ℕ) → addresses_fit addresses ≡ true → length addresses ≡ place_count
+pub addresses_fit_law : (addresses : List ℕ) → addresses_fit addresses ≡ true → length addresses ≡ place_count
 unfolding addresses_fit
-addresses_fit_lem addresses h = eqb-true (length addresses) _ h
+addresses_fit_law addresses h = eqb-true (length addresses) _ h
 
 -- ---- the outcomes of the length test
 

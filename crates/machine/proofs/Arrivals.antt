@@ -114,8 +114,8 @@ module _ (s : State) (c : FrameInRequest) where
     unfolding facts_at
     stays e = table_is ∙ not_learned_is s.core.settings s.core.table _ c.port c.packet e
 
-    no_lesson_lem : (PastEntering (facts_now s c) → ⊥) → learns (facts_now s c) ≡ false
-    no_lesson_lem n = on (learns (facts_now s c)) (λ e. absurd (n ((learns_exactly (facts_now s c)).0 e).1)) (λ e. e)
+    no_lesson_law : (PastEntering (facts_now s c) → ⊥) → learns (facts_now s c) ≡ false
+    no_lesson_law n = on (learns (facts_now s c)) (λ e. absurd (n ((learns_exactly (facts_now s c)).0 e).1)) (λ e. e)
 
     pub frame_in_theorems : FrameInTheorems s c allowed
     unfolding facts_at
@@ -127,7 +127,7 @@ module _ (s : State) (c : FrameInRequest) where
           queued_joins = λ e. joins_at (ports_left (facts_now s c).test) refl (port_left e) e;
           queued_takes = queued_takes;
           learned = λ b h. table_is ∙ learned_is s.core.settings s.core.table _ c.port c.packet (learned b h);
-          not_learned_lem = λ n. stays (no_lesson_lem n);
+          not_learned_law = λ n. stays (no_lesson_law n);
           bpdu_not_learned = λ b. stays (bpdu_learns_nothing (facts_now s c) b);
           settings_stay = settings_are;
         }

@@ -252,23 +252,23 @@ with_true a c h = rw h (on a (λ d. rw d) (λ d. rw d))
 zero_not_reason : (x : Reason) → eqb 0 (reason_number x) ≡ false
 zero_not_reason x = ne_eqb 0 (reason_number x) (λ e. omega (arith, (reason_between x).0))
 
-is_state_lem : (t : Test) → is_state t ≡ true → t ≡ state
+is_state_law : (t : Test) → is_state t ≡ true → t ≡ state
 unfolding is_state
-is_state_lem passes e = absurd (false≢true e)
-is_state_lem not_member e = absurd (false≢true e)
-is_state_lem arrival e = absurd (false≢true e)
-is_state_lem elsewhere e = absurd (false≢true e)
-is_state_lem state e = refl
-is_state_lem queue_off e = absurd (false≢true e)
+is_state_law passes e = absurd (false≢true e)
+is_state_law not_member e = absurd (false≢true e)
+is_state_law arrival e = absurd (false≢true e)
+is_state_law elsewhere e = absurd (false≢true e)
+is_state_law state e = refl
+is_state_law queue_off e = absurd (false≢true e)
 
-is_queue_off_lem : (t : Test) → is_queue_off t ≡ true → t ≡ queue_off
+is_queue_off_law : (t : Test) → is_queue_off t ≡ true → t ≡ queue_off
 unfolding is_queue_off
-is_queue_off_lem passes e = absurd (false≢true e)
-is_queue_off_lem not_member e = absurd (false≢true e)
-is_queue_off_lem arrival e = absurd (false≢true e)
-is_queue_off_lem elsewhere e = absurd (false≢true e)
-is_queue_off_lem state e = absurd (false≢true e)
-is_queue_off_lem queue_off e = refl
+is_queue_off_law passes e = absurd (false≢true e)
+is_queue_off_law not_member e = absurd (false≢true e)
+is_queue_off_law arrival e = absurd (false≢true e)
+is_queue_off_law elsewhere e = absurd (false≢true e)
+is_queue_off_law state e = absurd (false≢true e)
+is_queue_off_law queue_off e = refl
 
 state_is : (t : Test) → t ≡ state → is_state t ≡ true
 unfolding is_state
@@ -363,16 +363,16 @@ module _ (s : State) (c : FrameInRequest) (allowed : Allowed s (frame_in c)) (r 
   abbrev b : Bool
   b = is_not_learned f s.core.table
 
-  port_is_lem : f.port ≡ c.port
+  port_is_law : f.port ≡ c.port
   unfolding facts_at facts_of
-  port_is_lem = refl
+  port_is_law = refl
 
   events_are : (perform s (frame_in c)).events ≡ frame_in_events f b
   unfolding carry_out frame_in_step enters
   events_are = ap (λ (d : Step). d.events) (allowed_is s (frame_in c) allowed)
 
-  counted_by_lem : (k n : ℕ) → count r k (frame_in_events f b) ≡ n → count r k (perform s (frame_in c)).events ≡ n
-  counted_by_lem k n e = ap (count r k) events_are ∙ e
+  counted_by_law : (k n : ℕ) → count r k (frame_in_events f b) ≡ n → count r k (perform s (frame_in c)).events ≡ n
+  counted_by_law k n e = ap (count r k) events_are ∙ e
 
   no_place : b ≡ true → NoPlace s c
   unfolding is_not_learned learning_for
@@ -390,26 +390,26 @@ module _ (s : State) (c : FrameInRequest) (allowed : Allowed s (frame_in c)) (r 
   unfolding facts_at facts_of
   frame_in_counts =
       record {
-        offered = counted_by_lem 0 _ (offered_count f b r);
-        reasons = λ x. counted_by_lem (reason_number x) _ (reason_count f b r x);
-        accepted = counted_by_lem 14 _ (accepted_count f b r);
-        not_learned_lem = counted_if _ (b && eqb r f.port) _ (counted_by_lem 15 _ (unlearned_count f b r))
+        offered = counted_by_law 0 _ (offered_count f b r);
+        reasons = λ x. counted_by_law (reason_number x) _ (reason_count f b r x);
+        accepted = counted_by_law 14 _ (accepted_count f b r);
+        not_learned_law = counted_if _ (b && eqb r f.port) _ (counted_by_law 15 _ (unlearned_count f b r))
             (λ h. (eqb-true r c.port (and_right b (eqb r f.port) h), no_place (and_left b (eqb r f.port) h)))
             (λ h. ap₂ (λ (x y : Bool). x && y) (place_no h.1) (eq-eqb r c.port h.0));
-        queued = counted_if _ (is_nothing (reason_for f) && among r (ports_left f.test)) _ (counted_by_lem 16 _ (queued_at f b r))
+        queued = counted_if _ (is_nothing (reason_for f) && among r (ports_left f.test)) _ (counted_by_law 16 _ (queued_at f b r))
             (λ h. let p = left_passes f.test r (and_right (is_nothing (reason_for f)) (among r (ports_left f.test)) h) in
             (nothing_only (reason_for f) (and_left (is_nothing (reason_for f)) (among r (ports_left f.test)) h), p.0, p.1))
             (λ h. ap₂ (λ (x y : Bool). x && y) (ap is_nothing h.0 ∙ nothing_none) (passes_left f.test r (h.1, h.2)));
-        state_out_lem = counted_if _ (counts_tests f && (among r all_ports && is_state (f.test r))) _ (counted_by_lem 17 _ (state_count f b r))
+        state_out_law = counted_if _ (counts_tests f && (among r all_ports && is_state (f.test r))) _ (counted_by_law 17 _ (state_count f b r))
             (λ h. let t = and_right (counts_tests f) (among r all_ports && is_state (f.test r)) h in
-            (counts_only f (and_left (counts_tests f) (among r all_ports && is_state (f.test r)) h), among_port r (and_left (among r all_ports) (is_state (f.test r)) t), is_state_lem (f.test r) (and_right (among r all_ports) (is_state (f.test r)) t)))
+            (counts_only f (and_left (counts_tests f) (among r all_ports && is_state (f.test r)) h), among_port r (and_left (among r all_ports) (is_state (f.test r)) t), is_state_law (f.test r) (and_right (among r all_ports) (is_state (f.test r)) t)))
             (λ h. ap₂ (λ (x y : Bool). x && y) (counts_then f h.0) (ap₂ (λ (x y : Bool). x && y) (port_among r h.1) (state_is (f.test r) h.2)));
-        queue_out_lem = counted_if _ (counts_tests f && (among r all_ports && is_queue_off (f.test r))) _ (counted_by_lem 18 _ (queue_off_count f b r))
+        queue_out_law = counted_if _ (counts_tests f && (among r all_ports && is_queue_off (f.test r))) _ (counted_by_law 18 _ (queue_off_count f b r))
             (λ h. let t = and_right (counts_tests f) (among r all_ports && is_queue_off (f.test r)) h in
-            (counts_only f (and_left (counts_tests f) (among r all_ports && is_queue_off (f.test r)) h), among_port r (and_left (among r all_ports) (is_queue_off (f.test r)) t), is_queue_off_lem (f.test r) (and_right (among r all_ports) (is_queue_off (f.test r)) t)))
+            (counts_only f (and_left (counts_tests f) (among r all_ports && is_queue_off (f.test r)) h), among_port r (and_left (among r all_ports) (is_queue_off (f.test r)) t), is_queue_off_law (f.test r) (and_right (among r all_ports) (is_queue_off (f.test r)) t)))
             (λ h. ap₂ (λ (x y : Bool). x && y) (counts_then f h.0) (ap₂ (λ (x y : Bool). x && y) (port_among r h.1) (queue_off_is (f.test r) h.2)));
-        none_sent = counted_by_lem 19 0 (nothing_at f b r 19 (omega arith));
-        none_drained = counted_by_lem 20 0 (nothing_at f b r 20 (omega arith));
+        none_sent = counted_by_law 19 0 (nothing_at f b r 19 (omega arith));
+        none_drained = counted_by_law 20 0 (nothing_at f b r 20 (omega arith));
       }
 
 -- ---- take, drain and the others
@@ -449,7 +449,7 @@ others s c n₁ n₂ n₃ = perform_has (λ d. d.events ≡ []) s c (λ r. refl)
 pub count_theorems : CountTheorems
 count_theorems =
     record {
-      frame_in_lem = frame_in_counts;
+      frame_in_law = frame_in_counts;
       take_sent = take_sent;
       take_empty = take_empty;
       drained = drained;

@@ -138,7 +138,7 @@ read_long f e = ltb-false (length f.packet.bytes) 60 (each_first (holds_none _ e
 
 three : (s : State) (c : FrameInRequest) → (facts_now s c).bpdu ≡ true → (facts_now s c).queue ≡ 3
 unfolding facts_at
-three s c b = (facts_theorems s.core.settings s.core.table _ c.port c.packet).queue.bpdu_queue_lem b
+three s c b = (facts_theorems s.core.settings s.core.table _ c.port c.packet).queue.bpdu_queue_law b
 
 module _ (n : ℕ) (cs : List Call) (p x y : ℕ) (out : List ℕ) (v : Sends (after (fresh n) cs) p x y out) where
   came : Came (fresh n) cs p v.frame
@@ -170,12 +170,12 @@ module _ (n : ℕ) (cs : List Call) (p x y : ℕ) (out : List ℕ) (v : Sends (a
       ∙ ap (λ (bytes : List ℕ). retagged bytes (tags_of came.request.packet.bytes)) stored_bytes
       ∙ leaving_theorems.untouched came.request.packet.bytes each long
 
-  bpdu_queue_lem : then_facts.bpdu ≡ true → y ≡ 3
-  bpdu_queue_lem b =
+  bpdu_queue_law : then_facts.bpdu ≡ true → y ≡ 3
+  bpdu_queue_law b =
       v.queue_is ∙ came.stored.queue ∙ three (after (fresh n) came.earlier) came.request b
 
   pub left : Left n cs p x y out
-  left = record { sends = v; came = came; long = long; bpdu_as_it_came = λ each b. (bpdu_out each b, bpdu_queue_lem b) }
+  left = record { sends = v; came = came; long = long; bpdu_as_it_came = λ each b. (bpdu_out each b, bpdu_queue_law b) }
 
 pub leaves : (n : ℕ) (cs : List Call) (c : TakeRequest) (x y : ℕ) (out : List ℕ) → (perform (after (fresh n) cs) (take c)).answer ≡ done x y out → 1 ≤ x
     → Left n cs c.port x y out

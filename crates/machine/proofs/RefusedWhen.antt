@@ -26,7 +26,7 @@ use Rattle.machine.specs.State.{State, Call, frame_in, take, age, counter, port,
 use Rattle.machine.specs.SettingCalls.{no_entry_left}
 use Rattle.machine.specs.Machine.{lines_of}
 use Rattle.machine.specs.RefusedWhen.{ExactlyIf, KeyFits, RefusedWhen}
-use Rattle.machine.proofs.Refusals.{refused_by_lem, refuses}
+use Rattle.machine.proofs.Refusals.{refused_by_law, refuses}
 
 -- ---- exactly if
 
@@ -98,7 +98,7 @@ module _ (r : Refusal) (holds : Bool) (rest : Lines) where
   never q ne n e = n ((later q ne).0 e).1
 
 by_lines : (s : State) (c : Call) (r : Refusal) → ExactlyIf s c r (first (lines_of s c) ≡ some r)
-by_lines s c r = (refused_by_lem s c r, refuses s c r)
+by_lines s c r = (refused_by_law s c r, refuses s c r)
 
 -- ---- keys
 
@@ -172,7 +172,7 @@ module _ (s : State) where
             chain (by_lines s (remove c) address_not_there) (chain (later out_of_range _ _ address_not_there refl)
             (both (chain (kept (leb c.gid 15 && is_address c.address)) (key_fits s.core.table c.gid c.address))
             (chain (here address_not_there _ _ (empty_says address_not_there)) (not_found s.core.table c.gid c.address))));
-        age_never = λ r e. empty_says r (refused_by_lem s age r e);
+        age_never = λ r e. empty_says r (refused_by_law s age r e);
       }
     where
       static_four : (c : StaticRequest) → ExactlyIf s (static c) group_address ((c.port ≤ 4) × KeyFits c.gid c.address × (is_group c.address ≡ true))

@@ -42,13 +42,13 @@ entry_there new (v ∷ vs) =
     (λ e. rw e (rw (eqb_self new.vid)))
     (λ e. rw e (rw e (entry_there new vs)))
 
-entry_is_lem : (new : Vlan) (vs : List Vlan) → vlan_of (with_entry new vs) new.vid ≡ new
+entry_is_law : (new : Vlan) (vs : List Vlan) → vlan_of (with_entry new vs) new.vid ≡ new
 unfolding with_entry vlan_of
-entry_is_lem new [] = rw (eqb_self new.vid)
-entry_is_lem new (v ∷ vs) =
+entry_is_law new [] = rw (eqb_self new.vid)
+entry_is_law new (v ∷ vs) =
     on (eqb v.vid new.vid)
     (λ e. rw e (rw (eqb_self new.vid)))
-    (λ e. rw e (rw e (entry_is_lem new vs)))
+    (λ e. rw e (rw e (entry_is_law new vs)))
 
 module _ (vid : ℕ) where
   other_there : (new : Vlan) (vs : List Vlan) → (vid ≡ new.vid → ⊥) → is_there (with_entry new vs) vid ≡ is_there vs vid
@@ -126,7 +126,7 @@ vlan_sets s n allowed =
       quiet = quiet s (vlan n) allowed (set_settings (with_vlans (with_entry new old) s.core.settings) s.core) refl refl;
       this_vid = (
         is s (vlan n) allowed (λ d. is_there d.core.settings.vlans n.vid) ∙ entry_there new old,
-        is s (vlan n) allowed (λ d. vlan_of d.core.settings.vlans n.vid) ∙ entry_is_lem new old,
+        is s (vlan n) allowed (λ d. vlan_of d.core.settings.vlans n.vid) ∙ entry_is_law new old,
       );
       other_vids = λ v ne. (
         is s (vlan n) allowed (λ d. is_there d.core.settings.vlans v) ∙ other_there v new old ne,
@@ -240,14 +240,14 @@ fresh_is n =
       port_assignment = λ p. refl;
       port_default = λ p. refl;
       port_bars_none = λ p t. refl;
-      port_operation_lem = λ p. refl;
+      port_operation_law = λ p. refl;
       queue_map = record { pcp_0 = refl; pcp_1 = refl; pcp_2 = refl; pcp_3 = refl; pcp_4 = refl; pcp_5 = refl; pcp_6 = refl; pcp_7 = refl };
       queues_on = λ p q. refl;
       handling_on = refl;
       no_address = λ i. refl;
       nothing_waits = refl;
       counters_zero = λ p k. refl;
-      cell_count_lem = refl;
+      cell_count_law = refl;
     }
 
 pub setting_theorems : SettingTheorems

@@ -47,9 +47,9 @@ module _ (s : State) (c : FrameInRequest) where
       → TestTheorems s.core.settings s.core.table (free_cells s) c.port c.packet ordinary r
   tests_are = test_theorems s.core.settings s.core.table (free_cells s) c.port c.packet
 
-  vlan_is_lem : (facts_now s c).vlan ≡ vlan_of s.core.settings.vlans (facts_now s c).vid
+  vlan_is_law : (facts_now s c).vlan ≡ vlan_of s.core.settings.vlans (facts_now s c).vid
   unfolding facts_at facts_of
-  vlan_is_lem = refl
+  vlan_is_law = refl
 
   default_vid : PriorityTagged s c → (facts_now s c).vid ≡ (s.core.settings.port c.port).default.vid
   unfolding facts_at
@@ -63,8 +63,8 @@ module _ (s : State) (c : FrameInRequest) where
       × ((r : ℕ) → among r j.ports ≡ true → (vlan_of s.core.settings.vlans (s.core.settings.port c.port).default.vid).member r ≡ true)
   unfolding facts_at
   goes_by_default allowed tagged b e j =
-      let v : (facts_now s c).vlan ≡ vlan_of s.core.settings.vlans (s.core.settings.port c.port).default.vid = vlan_is_lem ∙ ap (vlan_of s.core.settings.vlans) (default_vid tagged) in (
-        j.stored.vlan_operation_lem b ∙ ap (λ (x : Vlan). x.operation) v,
+      let v : (facts_now s c).vlan ≡ vlan_of s.core.settings.vlans (s.core.settings.port c.port).default.vid = vlan_is_law ∙ ap (vlan_of s.core.settings.vlans) (default_vid tagged) in (
+        j.stored.vlan_operation_law b ∙ ap (λ (x : Vlan). x.operation) v,
         λ r h. sym (ap (λ (x : Vlan). x.member r) v) ∙ ((tests_are b r).passes_exactly.0 ((j.passing r).0 h).1).0.member,
       )
 
@@ -140,7 +140,7 @@ made_by_swap o operation before stack (by_pop_all _ k) e = absurd (let y : pop_a
 of_the_first : (s : State) (p x y : ℕ) (out : List ℕ) (v : Sends s p x y out) → MadeFirst v.frame.origin (s.core.settings.port p).operation v.leaves.stack
     → (s.core.settings.port p).operation.pcp_from ≡ outermost → OfTheFirst v
 of_the_first s p x y out v m e =
-    let h = of_outermost v.frame.origin (s.core.settings.port p).operation.header _ m.is_new.pcp_header_lem m.is_new.pcp_from_lem e in
+    let h = of_outermost v.frame.origin (s.core.settings.port p).operation.header _ m.is_new.pcp_header_law m.is_new.pcp_from_law e in
     record {
       new = m.new;
       rest = m.rest;
@@ -164,18 +164,18 @@ second_tag =
 
 module _ (s : State) (c : FrameInRequest) (b : (facts_now s c).bpdu ≡ false) (i : ℕ) (e : Entry) (l : (facts_now s c).look_up ≡ found i e)
     (n : (facts_now s c).vlan.member e.port ≡ false) where
-  no_candidate_lem : (r : ℕ) → Candidate s.core.settings s.core.table (free_cells s) c.port c.packet r → ⊥
+  no_candidate_law : (r : ℕ) → Candidate s.core.settings s.core.table (free_cells s) c.port c.packet r → ⊥
   unfolding facts_at
-  no_candidate_lem r h =
-      let same : r ≡ e.port = ((facts_are s c).look_up_lem.found_chooses_its_port i e l r).0 h.chosen in
+  no_candidate_law r h =
+      let same : r ≡ e.port = ((facts_are s c).look_up_law.found_chooses_its_port i e l r).0 h.chosen in
       true≢false (sym h.member ∙ ap (facts_now s c).vlan.member same ∙ n)
 
   none_passes : (r : ℕ) → ((facts_now s c).test r ≡ passes → ⊥) × ((facts_now s c).test r ≡ state → ⊥) × ((facts_now s c).test r ≡ queue_off → ⊥)
   unfolding facts_at
   none_passes r = (
-    λ h. no_candidate_lem r ((tests_are s c b r).passes_exactly.0 h).0,
-    λ h. no_candidate_lem r ((tests_are s c b r).state_exactly.0 h).0,
-    λ h. no_candidate_lem r ((tests_are s c b r).queue_off_exactly.0 h).0,
+    λ h. no_candidate_law r ((tests_are s c b r).passes_exactly.0 h).0,
+    λ h. no_candidate_law r ((tests_are s c b r).state_exactly.0 h).0,
+    λ h. no_candidate_law r ((tests_are s c b r).queue_off_exactly.0 h).0,
   )
 
   some_reason : reason_for (facts_now s c) ≡ none → (allowed : Allowed s (frame_in c)) → ⊥
@@ -210,15 +210,15 @@ flooded : (s : State) (c : FrameInRequest) → (facts_now s c).bpdu ≡ false �
     → (r : ℕ) → (facts_now s c).vlan.member r ≡ true → (r ≡ c.port → ⊥) → DisabledOrForwarding (s.core.settings.port r).state
     → s.core.settings.queue_on r (facts_now s c).queue ≡ true → (facts_now s c).test r ≡ passes
 unfolding facts_at
-flooded s c b same unknown_source r member away state_good queue_on_lem =
-    (tests_are s c b r).passes_exactly.1 (record { member = member; not_arrival = away; chosen = chosen }, state_good, queue_on_lem)
+flooded s c b same unknown_source r member away state_good queue_on_law =
+    (tests_are s c b r).passes_exactly.1 (record { member = member; not_arrival = away; chosen = chosen }, state_good, queue_on_law)
   where
     chosen : (facts_now s c).chosen r ≡ true
     chosen =
         on (is_group (destination c.packet.bytes))
-        (λ g. (facts_are s c).look_up_lem.group_chooses_all ((facts_are s c).look_up_lem.group_not_looked_up g) r)
-        (λ g. (facts_are s c).look_up_lem.unknown_chooses_all
-        ((facts_are s c).look_up_lem.not_found g (ap (λ (a : ℕ). find s.core.table (key (facts_now s c).vlan.gid a)) same ∙ unknown_source)) r)
+        (λ g. (facts_are s c).look_up_law.group_chooses_all ((facts_are s c).look_up_law.group_not_looked_up g) r)
+        (λ g. (facts_are s c).look_up_law.unknown_chooses_all
+        ((facts_are s c).look_up_law.not_found g (ap (λ (a : ℕ). find s.core.table (key (facts_now s c).vlan.gid a)) same ∙ unknown_source)) r)
 
 pub slips : Slips
 slips =

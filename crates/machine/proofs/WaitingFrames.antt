@@ -45,14 +45,14 @@ record Ports (ps : List ℕ) : Type 0 where
   there : Each (λ (p : ℕ). p ≤ 4) ps
   apart : Distinct ps
 
-waits_at_lem : (f : Frame) (p : ℕ) (ps : List ℕ) → Ports (p ∷ ps) → WaitsSomewhere (record { frame = f; ports = p ∷ ps })
+waits_at_law : (f : Frame) (p : ℕ) (ps : List ℕ) → Ports (p ∷ ps) → WaitsSomewhere (record { frame = f; ports = p ∷ ps })
 unfolding among
-waits_at_lem f p ps h = record { lowest = p; waits = rw (eq-eqb p p refl); there = h.there; once = h.apart }
+waits_at_law f p ps h = record { lowest = p; waits = rw (eq-eqb p p refl); there = h.there; once = h.apart }
 
 stay_waits : (f : Frame) (ps : List ℕ) (ws : List Waiting) → Ports ps → Each WaitsSomewhere ws → Each WaitsSomewhere (stay f ps ws)
 unfolding stay
 stay_waits f [] ws h t = t
-stay_waits f (p ∷ ps) ws h t = also (waits_at_lem f p ps h) t
+stay_waits f (p ∷ ps) ws h t = also (waits_at_law f p ps h) t
 
 leave_waits : (p : ℕ) (w : Waiting) (ws : List Waiting) → WaitsSomewhere w → Each WaitsSomewhere ws → Each WaitsSomewhere (leave p w ws)
 unfolding leave without

@@ -46,20 +46,20 @@ pub record FrameInCounts (s : State) (c : FrameInRequest) (allowed : Allowed s (
       ≡ once (eqb r c.port && eqb (reason_number x) (outcome_number (reason_for (facts_now s c))))
   pub accepted : count r 14 (perform s (frame_in c)).events
       ≡ once (eqb r c.port && is_nothing (reason_for (facts_now s c)))
-  pub not_learned_lem : CountedIf (count r 15 (perform s (frame_in c)).events) ((r ≡ c.port) × NoPlace s c)
+  pub not_learned_law : CountedIf (count r 15 (perform s (frame_in c)).events) ((r ≡ c.port) × NoPlace s c)
   -- by departing port: 16 queued, 17 state, 18 queue off; 17 and 18 past 11, also if 12 or 13 follows
   pub queued : CountedIf (count r 16 (perform s (frame_in c)).events) ((reason_for (facts_now s c) ≡ none) × (r ≤ 4)
       × ((facts_now s c).test r ≡ passes))
-  pub state_out_lem : CountedIf (count r 17 (perform s (frame_in c)).events) (PastChoosing (facts_now s c) × (r ≤ 4)
+  pub state_out_law : CountedIf (count r 17 (perform s (frame_in c)).events) (PastChoosing (facts_now s c) × (r ≤ 4)
       × ((facts_now s c).test r ≡ state))
-  pub queue_out_lem : CountedIf (count r 18 (perform s (frame_in c)).events) (PastChoosing (facts_now s c) × (r ≤ 4)
+  pub queue_out_law : CountedIf (count r 18 (perform s (frame_in c)).events) (PastChoosing (facts_now s c) × (r ≤ 4)
       × ((facts_now s c).test r ≡ queue_off))
   -- 19 sent, 20 drained
   pub none_sent : count r 19 (perform s (frame_in c)).events ≡ 0
   pub none_drained : count r 20 (perform s (frame_in c)).events ≡ 0
 
 pub record CountTheorems : Type 0 where
-  pub frame_in_lem : (s : State) (c : FrameInRequest) (allowed : Allowed s (frame_in c)) (r : ℕ)
+  pub frame_in_law : (s : State) (c : FrameInRequest) (allowed : Allowed s (frame_in c)) (r : ℕ)
       → FrameInCounts s c allowed r
   -- A take counts 19 once at its port if something waits there, and nothing else; a drain counts 20 for each copy, and
   -- nothing else.

@@ -149,14 +149,14 @@ pub record FreshIs (n : ℕ) : Type 0 where
   pub port_assignment : (p : ℕ) → ((fresh n).core.settings.port p).assignment ≡ 1
   pub port_default : (p : ℕ) → ((fresh n).core.settings.port p).default ≡ record { pcp = 0; dei = 0; vid = 1 }
   pub port_bars_none : (p t : ℕ) → ((fresh n).core.settings.port p).bars t ≡ false
-  pub port_operation_lem : (p : ℕ) → ((fresh n).core.settings.port p).operation ≡ no_operation
+  pub port_operation_law : (p : ℕ) → ((fresh n).core.settings.port p).operation ≡ no_operation
   pub queue_map : Mapped (fresh n).core.settings.queue_of
   pub queues_on : (p q : ℕ) → (fresh n).core.settings.queue_on p q ≡ true
   pub handling_on : (fresh n).core.settings.bpdu_handling ≡ true
   pub no_address : (i : ℕ) → (fresh n).core.table i ≡ none
   pub nothing_waits : (fresh n).core.waiting ≡ []
   pub counters_zero : (p k : ℕ) → (fresh n).counters p k ≡ 0
-  pub cell_count_lem : (fresh n).cell_count ≡ n
+  pub cell_count_law : (fresh n).cell_count ≡ n
 
 pub record SettingTheorems : Type 0 where
   pub port_sets : (s : State) (c : PortRequest) (allowed : Allowed s (port c)) → PortSets s c allowed

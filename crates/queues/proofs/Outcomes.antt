@@ -33,9 +33,9 @@ module _ (n p q : ℕ) (l : List ℕ) where
   pop_first first ne = rw (ne_eqb (youngest_of l p q) first ne)
 
   -- by a caller who has the oldest
-  pub popped_at_lem : (first : ℕ) → first ≡ oldest_cell n l p q → popped_at p q first l ≡ popped n p q l
+  pub popped_at_law : (first : ℕ) → first ≡ oldest_cell n l p q → popped_at p q first l ≡ popped n p q l
   unfolding popped
-  popped_at_lem first e = rw e
+  popped_at_law first e = rw e
 
   pub length_pushed : (x : ℕ) → length (pushed n p q x l) ≡ length l
   unfolding pushed

@@ -17,7 +17,7 @@ use Rattle.queues.specs.Lists.{waiting_of, oldest_of, youngest_of, behind_of, cl
 use Rattle.queues.specs.Queued.{some, Behind, Queued, Queues, left}
 use Rattle.layout.proofs.BitLaws.{written_there, written_elsewhere}
 use Rattle.layout.proofs.Cells.{clamped_below}
-use Rattle.queues.proofs.Outcomes.{pop_last, pop_first, popped_at_lem}
+use Rattle.queues.proofs.Outcomes.{pop_last, pop_first, popped_at_law}
 use Rattle.queues.proofs.Counts.{times_rest}
 use Rattle.queues.proofs.Chains.{not_last, ListSame}
 use Rattle.queues.proofs.Changes.{queues_changed}
@@ -32,7 +32,7 @@ module _ (n p q : ℕ) (l : List ℕ) (long : link_words n ≤ length l) (port :
   module _ (Q : Queued n l p q (c ∷ [])) where
     is_last : popped n p q l ≡ set l (waiting_word p) (with_bit (waiting_of l p) q false)
     is_last =
-        sym (popped_at_lem n p q l c (sym (first_is [] Q)))
+        sym (popped_at_law n p q l c (sym (first_is [] Q)))
         ∙ sym (pop_last n p q l c (with_bit (waiting_of l p) q false) (sym Q.chained.1) refl)
 
     last_word : (w : ℕ) → (w ≡ waiting_word p → ⊥) → get_or (popped n p q l) w 0 ≡ get_or l w 0
@@ -46,7 +46,7 @@ module _ (n p q : ℕ) (l : List ℕ) (long : link_words n ≤ length l) (port :
   module _ (d : ℕ) (ds : List ℕ) (Q : Queued n l p q (c ∷ d ∷ ds)) where
     is_next : popped n p q l ≡ set l (oldest_word p q) d
     is_next =
-        sym (popped_at_lem n p q l c (sym (first_is (d ∷ ds) Q)))
+        sym (popped_at_law n p q l c (sym (first_is (d ∷ ds) Q)))
         ∙ sym (pop_first n p q l c (λ e. not_last l p (youngest_of l p q) c d ds Q.chained.1.1 Q.once (sym e)))
         ∙ ap (set l (oldest_word p q)) Q.chained.1.0
 

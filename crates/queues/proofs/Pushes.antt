@@ -37,8 +37,8 @@ module _ (n p q x : ℕ) (l : List ℕ) (long : link_words n ≤ length l) (port
     is_behind : pushed n p q x l ≡ set linked (youngest_word p q) x
     is_behind = sym (push_behind n p q l x Y waits (sym (clamped_below n Y inside)))
 
-    behind_word_lem : (w : ℕ) → (w ≡ behind_word p Y → ⊥) → (w ≡ youngest_word p q → ⊥) → get_or (pushed n p q x l) w 0 ≡ get_or l w 0
-    behind_word_lem w a b = rw is_behind (get_or-set_other linked (youngest_word p q) w x 0 b ∙ get_or-set_other l (behind_word p Y) w x 0 a)
+    behind_word_law : (w : ℕ) → (w ≡ behind_word p Y → ⊥) → (w ≡ youngest_word p q → ⊥) → get_or (pushed n p q x l) w 0 ≡ get_or l w 0
+    behind_word_law w a b = rw is_behind (get_or-set_other linked (youngest_word p q) w x 0 b ∙ get_or-set_other l (behind_word p Y) w x 0 a)
 
     behind_youngest : youngest_of (pushed n p q x l) p q ≡ x
     behind_youngest = rw is_behind (get_or-set_same linked (youngest_word p q) x 0 (simp length-set (omega arith)))
@@ -76,8 +76,8 @@ module _ (n p q x : ℕ) (l : List ℕ) (long : link_words n ≤ length l) (port
         (get_or-set_other both (waiting_word p) (youngest_word p q) (with_bit (waiting_of l p) q true) 0 (λ e. omega arith)
         ∙ get_or-set_same first (youngest_word p q) x 0 (simp length-set (omega arith)))
 
-    first_waiting_lem : waiting_of (pushed n p q x l) p ≡ with_bit (waiting_of l p) q true
-    first_waiting_lem = rw is_first (get_or-set_same both (waiting_word p) (with_bit (waiting_of l p) q true) 0 (simp length-set (omega arith)))
+    first_waiting_law : waiting_of (pushed n p q x l) p ≡ with_bit (waiting_of l p) q true
+    first_waiting_law = rw is_first (get_or-set_same both (waiting_word p) (with_bit (waiting_of l p) q true) 0 (simp length-set (omega arith)))
 
 -- ---- the queue itself
 
@@ -98,7 +98,7 @@ module _ (n p q x : ℕ) (l : List ℕ) (long : link_words n ≤ length l) (port
   unfolding some
   queued_pushed [] new Q =
       record {
-        waits = ap (λ (w : ℕ). bit w q) (first_waiting_lem n p q x l long port queue Q.waits) ∙ written_there (waiting_of l p) q true;
+        waits = ap (λ (w : ℕ). bit w q) (first_waiting_law n p q x l long port queue Q.waits) ∙ written_there (waiting_of l p) q true;
         below = also inside nobody;
         once = once_pushed x [] new Q.once;
         chained = (first_oldest n p q x l long port queue Q.waits, sym (first_youngest n p q x l long port queue Q.waits));
@@ -106,7 +106,7 @@ module _ (n p q x : ℕ) (l : List ℕ) (long : link_words n ≤ length l) (port
   queued_pushed (c ∷ cs) new Q =
       let last : ℕ = youngest_of l p q in
       let low : last < n = each_times Q.below last (last_in l p last c cs Q.chained.1) in
-      let word = behind_word_lem n p q x l long port queue Q.waits low in
+      let word = behind_word_law n p q x l long port queue Q.waits low in
       record {
         waits = ap (λ (w : ℕ). bit w q) (word (waiting_word p) (λ e. omega arith) (λ e. omega arith)) ∙ Q.waits;
         below = each_append Q.below (also inside nobody);
@@ -135,7 +135,7 @@ module _ (n p q x : ℕ) (l : List ℕ) (long : link_words n ≤ length l) (port
           record {
             waits = on (eqb r p)
                 (λ e. let same : r ≡ p = eqb-true r p e in
-                rw same (ap (λ (w : ℕ). bit w s) (first_waiting_lem n p q x l long port queue empty) ∙ written_elsewhere (waiting_of l p) q true s (λ e. ne same (sym e))))
+                rw same (ap (λ (w : ℕ). bit w s) (first_waiting_law n p q x l long port queue empty) ∙ written_elsewhere (waiting_of l p) q true s (λ e. ne same (sym e))))
                 (λ e. ap (λ (w : ℕ). bit w s) (word (waiting_word r) (λ z. let same : r ≡ p = omega arith in omega arith) (λ z. let same : r ≡ p = omega arith in omega arith) (λ z. eqb-false r p e (omega arith))));
             oldest = word (oldest_word r s) (λ z. let same : r ≡ p = omega arith in ne same (omega arith)) (λ z. omega arith) (λ z. let same : r ≡ p = omega arith in omega arith);
             youngest = word (youngest_word r s) (λ z. omega arith) (λ z. let same : r ≡ p = omega arith in ne same (omega arith)) (λ z. let same : r ≡ p = omega arith in omega arith);
@@ -149,7 +149,7 @@ module _ (n p q x : ℕ) (l : List ℕ) (long : link_words n ≤ length l) (port
           let last : ℕ = youngest_of l p q in
           let there : 1 ≤ times last (c ∷ cs) = last_in l p last c cs Q.chained.1 in
           let low : last < n = each_times Q.below last there in
-          let word = behind_word_lem n p q x l long port queue Q.waits low in
+          let word = behind_word_law n p q x l long port queue Q.waits low in
           record {
             waits = ap (λ (w : ℕ). bit w s) (word (waiting_word r) (λ z. omega arith) (λ z. omega arith));
             oldest = word (oldest_word r s) (λ z. omega arith) (λ z. omega arith);

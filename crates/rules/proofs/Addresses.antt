@@ -8,7 +8,7 @@ use Rattle.rules.specs.Tables.{at, nowhere, find_in, place_by, place_in, put_at,
 use Rattle.rules.specs.Addresses.{Entry, Table, address_keys, find, empty_for, with_mark, LookUp, group, unknown, found, answered, look_up, hit_marks, after_look_up, Learning, stays, no_place, takes, learning_by, learning_of, is_no_place, learned_entry, learn_by, learn, older, aged, goes, removed, static_entry, set_static, is_full, no_place_for, remove, Sound}
 use Rattle.rules.specs.AddressTheorems.{AddressTheorems, one, entries, learned_as}
 use Rattle.rules.proofs.Choice.{on, on_option}
-use Rattle.rules.proofs.Tables.{no_some, on_found, put_at_lem, search_hit, search_miss, set_sound, remove_sound, set_finds, set_leaves_others, remove_finds_none, remove_leaves_others}
+use Rattle.rules.proofs.Tables.{no_some, on_found, put_at_law, search_hit, search_miss, set_sound, remove_sound, set_finds, set_leaves_others, remove_finds_none, remove_leaves_others}
 use Rattle.rules.proofs.Tables as Laws
 
 pub on_look_up {ℓ} : {C : Type ℓ} (l : LookUp) → (l ≡ group → C) → (l ≡ unknown → C) → ((i : ℕ) (e : Entry) → l ≡ found i e → C) → C
@@ -77,8 +77,8 @@ module _ (t : Table) (k : ℕ) where
     learn_full h a = learn_same no_place (learning_none h a) none_not
 
     -- by cases: the table stays, or the learned entry is set
-    learn_by_lem {ℓ} : (P : Table → Type ℓ) → P t → P (set_in address_keys t k (learned_entry k port)) → P (learn t k port)
-    learn_by_lem P same set =
+    learn_by_law {ℓ} : (P : Table → Type ℓ) → P t → P (set_in address_keys t k (learned_entry k port)) → P (learn t k port)
+    learn_by_law P same set =
         on_found (find t k)
         (λ h. on_option (empty_for t k)
         (λ a. rw (learn_full h a) same)
@@ -98,11 +98,11 @@ module _ (t : Table) (k : ℕ) where
     learned_others : (other : ℕ) → (other ≡ k → ⊥) → find (learn t k port) other ≡ find t other
     unfolding find
     learned_others other n =
-        learn_by_lem (λ (u : Table). find_in address_keys u other ≡ find_in address_keys t other) refl
+        learn_by_law (λ (u : Table). find_in address_keys u other ≡ find_in address_keys t other) refl
         (set_leaves_others address_keys t k other (learned_entry k port) key_learned n)
 
     pub learn_sound : Sound t → Sound (learn t k port)
-    learn_sound S = learn_by_lem Sound S (set_sound address_keys t k (learned_entry k port) S key_learned)
+    learn_sound S = learn_by_law Sound S (set_sound address_keys t k (learned_entry k port) S key_learned)
 
   pub no_place_only : is_no_place (learning_of t k) ≡ true → (find t k ≡ nowhere) × (empty_for t k ≡ none)
   unfolding is_no_place
@@ -200,7 +200,7 @@ module _ (t : Table) (k : ℕ) where
 
   remove_empties : (i : ℕ) (e : Entry) → find t k ≡ at i e → remove t k i ≡ none
   unfolding find remove remove_in remove_found
-  remove_empties i e h = rw h (put_at_lem i none t)
+  remove_empties i e h = rw h (put_at_law i none t)
 
   pub removal_sound : Sound t → Sound (remove t k)
   unfolding remove
@@ -300,7 +300,7 @@ address_theorems =
         keeps_sound = learn_sound t k port;
       };
       marking = λ t k. record {
-        hit_marks_lem = marked_finds t k;
+        hit_marks_law = marked_finds t k;
         miss_changes_nothing = mark_misses t k;
         group_changes_nothing = group_same t k;
         others_keep = marked_others t k;

@@ -95,7 +95,7 @@ module _ (s : Settings) (t : Table) (free p : ℕ) (k : Packet) where
         pcp_of_default = λ e. subst (λ ts. (header_at (s.port p).default ts 0).pcp ≡ (s.port p).default.pcp) (sym e) refl;
         by_outermost = λ b x rest e. rw (b, e);
         by_default = λ b e. rw (b, e);
-        bpdu_queue_lem = λ b. rw b;
+        bpdu_queue_law = λ b. rw b;
       }
 
   found_chooses : (i : ℕ) (e : Entry) → (facts s t free p k).look_up ≡ found i e → (r : ℕ) → ((facts s t free p k).chosen r ≡ true) ↔ (r ≡ e.port)
@@ -138,9 +138,9 @@ module _ (s : Settings) (t : Table) (free p : ℕ) (k : Packet) where
         vid = vid_theorems;
         vlan = vlan_theorems;
         queue = queue_theorems;
-        look_up_lem = look_up_theorems;
+        look_up_law = look_up_theorems;
         packet_is = refl;
-        port_is_lem = refl;
+        port_is_law = refl;
         tags_are = refl;
         default_is = refl;
         state_is = refl;
@@ -148,6 +148,6 @@ module _ (s : Settings) (t : Table) (free p : ℕ) (k : Packet) where
         barred_with_one = λ a e. rw e;
         barred_with_two = λ a b e. rw e;
         bpdu_exactly = (bpdu_only, bpdu_then);
-        source_key_lem = refl;
+        source_key_law = refl;
         outnumbers_exactly = (λ h. ltb-true free (cells (length k.bytes)) h, λ h. lt-ltb free (cells (length k.bytes)) h);
       }

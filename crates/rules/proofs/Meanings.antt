@@ -5,7 +5,7 @@ use Rattle.rules.specs.MeaningTheorems.{OperationMeans, PortMeans, VlanMeans, Me
 
 operations : (n : OperationNumbers) → OperationMeans n (operation_of n)
 unfolding operation_of
-operations n = record { kind = refl; type = refl; vid_from_lem = refl; pcp_from_lem = refl; vid = refl; pcp = refl; dei = refl }
+operations n = record { kind = refl; type = refl; vid_from_law = refl; pcp_from_law = refl; vid = refl; pcp = refl; dei = refl }
 
 ports : (n : PortNumbers) → PortMeans n (port_of n)
 unfolding port_of

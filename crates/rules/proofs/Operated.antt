@@ -22,16 +22,16 @@ header_from o own outermost = outermost_from o own o.tags refl
 header_from o own second = second_from o own o.tags refl
 header_from o own given = from_operation
 
-new_tag_lem : (o : Origin) (operation : Operation) → IsNew o operation (new_tag o operation)
+new_tag_law : (o : Origin) (operation : Operation) → IsNew o operation (new_tag o operation)
 unfolding new_tag
-new_tag_lem o operation =
+new_tag_law o operation =
     record {
       type = refl;
-      vid_header_lem = from o operation.header operation.vid_from;
-      vid_from_lem = header_from o operation.header operation.vid_from;
+      vid_header_law = from o operation.header operation.vid_from;
+      vid_from_law = header_from o operation.header operation.vid_from;
       vid = refl;
-      pcp_header_lem = from o operation.header operation.pcp_from;
-      pcp_from_lem = header_from o operation.header operation.pcp_from;
+      pcp_header_law = from o operation.header operation.pcp_from;
+      pcp_from_law = header_from o operation.header operation.pcp_from;
       pcp = refl;
       dei = refl;
     }
@@ -41,9 +41,9 @@ unfolding on_stack
 by_kind o operation none e stack = by_none stack e
 by_kind o operation pop e [] = by_pop_of_none e
 by_kind o operation pop e (a ∷ rest) = by_pop a rest e
-by_kind o operation push e stack = by_push (new_tag o operation) stack e (new_tag_lem o operation)
-by_kind o operation swap e [] = by_swap_of_none (new_tag o operation) e (new_tag_lem o operation)
-by_kind o operation swap e (a ∷ rest) = by_swap (new_tag o operation) a rest e (new_tag_lem o operation)
+by_kind o operation push e stack = by_push (new_tag o operation) stack e (new_tag_law o operation)
+by_kind o operation swap e [] = by_swap_of_none (new_tag o operation) e (new_tag_law o operation)
+by_kind o operation swap e (a ∷ rest) = by_swap (new_tag o operation) a rest e (new_tag_law o operation)
 by_kind o operation pop_all e stack = by_pop_all stack e
 
 pub operated : (o : Origin) (operation : Operation) (stack : List Tag) → Operated o operation stack (operate o operation stack)

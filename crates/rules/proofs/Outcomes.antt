@@ -20,7 +20,7 @@ outcome_theorems f t =
       dropped = λ r e. ap (λ (o : Option Reason). outcome_by o (frame_of f) (ports_left f.test)) e;
       queued = λ e. ap (λ (o : Option Reason). outcome_by o (frame_of f) (ports_left f.test)) e;
       learned = λ e. ap (λ (b : Bool). if b then learn_by (learning_for f t) f.source_key f.port known else t) e;
-      not_learned_lem = λ e. ap (λ (b : Bool). if b then learn_by (learning_for f t) f.source_key f.port known else t) e;
+      not_learned_law = λ e. ap (λ (b : Bool). if b then learn_by (learning_for f t) f.source_key f.port known else t) e;
       no_place_exactly = (
         λ h. let n = no_place_only known f.source_key (and_right (learns f) (is_no_place (learning_of known f.source_key)) h) in
             (and_left (learns f) (is_no_place (learning_of known f.source_key)) h, n.0, n.1),

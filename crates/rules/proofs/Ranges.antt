@@ -37,14 +37,14 @@ operations n =
           record {
             kind = leb-true n.kind 4 (and_left a b two);
             type = leb-true n.type 1 (and_right a b two);
-            vid_source_lem = leb-true n.vid_source 2 (and_right (a && b) c three);
-            pcp_source_lem = leb-true n.pcp_source 2 (and_right (a && b && c) d four);
+            vid_source_law = leb-true n.vid_source 2 (and_right (a && b) c three);
+            pcp_source_law = leb-true n.pcp_source 2 (and_right (a && b && c) d four);
             vid = leb-true n.vid 4094 (and_right (a && b && c && d) e five);
             pcp = leb-true n.pcp 7 (and_right (a && b && c && d && e) f six);
             dei = leb-true n.dei 1 (and_right (a && b && c && d && e && f) g h);
           },
       λ h. both_true (both_true (both_true (both_true (both_true (both_true
-          (le-leb n.kind 4 h.kind) (le-leb n.type 1 h.type)) (le-leb n.vid_source 2 h.vid_source_lem)) (le-leb n.pcp_source 2 h.pcp_source_lem))
+          (le-leb n.kind 4 h.kind) (le-leb n.type 1 h.type)) (le-leb n.vid_source 2 h.vid_source_law)) (le-leb n.pcp_source 2 h.pcp_source_law))
           (le-leb n.vid 4094 h.vid)) (le-leb n.pcp 7 h.pcp)) (le-leb n.dei 1 h.dei),
     )
 

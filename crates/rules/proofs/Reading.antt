@@ -25,9 +25,9 @@ group_at bytes each i = (
   λ h. eq-eqb (address_at bytes i / 2 ^ 40 % 2) 1 (group_bit bytes each i ∙ h),
 )
 
-pub group_source_lem : (bytes : List ℕ) → Bytes bytes → (is_group (source bytes) ≡ true) ↔ (get_or bytes 6 0 % 2 ≡ 1)
+pub group_source_law : (bytes : List ℕ) → Bytes bytes → (is_group (source bytes) ≡ true) ↔ (get_or bytes 6 0 % 2 ≡ 1)
 unfolding source
-group_source_lem bytes each = group_at bytes each 6
+group_source_law bytes each = group_at bytes each 6
 
 group_destination : (bytes : List ℕ) → Bytes bytes → (is_group (destination bytes) ≡ true) ↔ (get_or bytes 0 0 % 2 ≡ 1)
 unfolding destination
@@ -65,6 +65,6 @@ reading_theorems =
       destination_is = destination_is;
       source_is = source_is;
       group_destination = group_destination;
-      group_source_lem = group_source_lem;
+      group_source_law = group_source_law;
       types_exactly = λ n. (is_type n, type_is);
     }

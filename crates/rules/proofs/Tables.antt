@@ -28,9 +28,9 @@ not_both h k = absurd (let z : ◌≡◌ {A = ℕ} 0 1 = cc in omega arith)
 
 -- ---- a changed place
 
-pub put_at_lem : {E : Type 0} (i : ℕ) (o : Option E) (t : TableOf E) → put i o t i ≡ o
+pub put_at_law : {E : Type 0} (i : ℕ) (o : Option E) (t : TableOf E) → put i o t i ≡ o
 unfolding put changed
-put_at_lem i o t = rw (eqb_self i)
+put_at_law i o t = rw (eqb_self i)
 
 pub put_off : {E : Type 0} (i j : ℕ) (o : Option E) (t : TableOf E) → eqb i j ≡ false → put i o t j ≡ t j
 unfolding put changed
@@ -86,13 +86,13 @@ module _ {E : Type 0} (kind : Keyed E) where
       not_both c refl)
       (λ b. search_miss t k ps (missed t k p ps h) i e te (rw b at ai) ke)
 
-  first_empty_lem : (t : TableOf E) (ps : List ℕ) (i : ℕ) → first_empty t ps ≡ some i → (t i ≡ none) × (among i ps ≡ true)
+  first_empty_law : (t : TableOf E) (ps : List ℕ) (i : ℕ) → first_empty t ps ≡ some i → (t i ≡ none) × (among i ps ≡ true)
   unfolding first_empty vacant among
-  first_empty_lem t [] i h = no_some refl h
-  first_empty_lem t (p ∷ ps) i h =
+  first_empty_law t [] i h = no_some refl h
+  first_empty_law t (p ∷ ps) i h =
       on_option (t p)
       (λ a. let c : some p ≡ some i = rw a at h in let x : p ≡ i = cc in (rw (← x) a, rw (eq-eqb i p (sym x))))
-      (λ d a. let r = first_empty_lem t ps i (rw a at h) in (r.0, rw r.1 (or_true (eqb i p))))
+      (λ d a. let r = first_empty_law t ps i (rw a at h) in (r.0, rw r.1 (or_true (eqb i p))))
 
   -- ---- the first place
 
@@ -161,7 +161,7 @@ module _ {E : Type 0} (kind : Keyed E) where
   put_unseen t i o k h ps =
       search_same (put i o t) t k
       (λ j. on (eqb i j)
-      (λ b. subst (λ (x : ℕ). matching (put i o t x) k ≡ matching (t x) k) (eqb-true i j b) (rw (put_at_lem i o t) h))
+      (λ b. subst (λ (x : ℕ). matching (put i o t x) k ≡ matching (t x) k) (eqb-true i j b) (rw (put_at_law i o t) h))
       (λ b. rw (put_off i j o t b)))
       ps
 
@@ -211,7 +211,7 @@ module _ {E : Type 0} (kind : Keyed E) where
   pub new_sound : (t : TableOf E) (k i : ℕ) (e : E) → Sound kind t → find_in kind t k ≡ nowhere → empty_in kind t k ≡ some i → kind.key_of e ≡ k → Sound kind (put i (some e) t)
   unfolding find_in empty_in
   new_sound t k i e S h a x =
-      put_sound t i e S (rw x (first_empty_lem t (kind.order k) i a).1)
+      put_sound t i e S (rw x (first_empty_law t (kind.order k) i a).1)
       (λ j d g y. absurd (search_miss t k (kind.order k) h j d g (subst (λ (v : ℕ). among j (kind.order v) ≡ true) (y ∙ x) (S.placed j d g)) (y ∙ x)))
 
   pub set_sound : (t : TableOf E) (k : ℕ) (e : E) → Sound kind t → kind.key_of e ≡ k → Sound kind (set_in kind t k e)
@@ -247,7 +247,7 @@ module _ {E : Type 0} (kind : Keyed E) where
   hit_again t k (p ∷ ps) i d e x h =
       on (eqb i p)
       (λ b. let q : i ≡ p = eqb-true i p b in
-      rw (← q) (rw (put_at_lem i (some e) t) (rw (eq-eqb (kind.key_of e) k x))))
+      rw (← q) (rw (put_at_law i (some e) t) (rw (eq-eqb (kind.key_of e) k x))))
       (λ b. rw (put_off i p (some e) t b) (on_option (t p)
       (λ a. rw a (hit_again t k ps i d e x (rw a at h)))
       (λ f a. on (eqb (kind.key_of f) k)
@@ -260,9 +260,9 @@ module _ {E : Type 0} (kind : Keyed E) where
   new_hit t k (p ∷ ps) i e x h a =
       on_option (t p)
       (λ n. let c : some p ≡ some i = rw n at a in let q : p ≡ i = cc in
-      rw q (rw (put_at_lem i (some e) t) (rw (eq-eqb (kind.key_of e) k x))))
+      rw q (rw (put_at_law i (some e) t) (rw (eq-eqb (kind.key_of e) k x))))
       (λ f s. let later_empty : first_empty t ps ≡ some i = rw s at a in
-      let off : eqb i p ≡ false = ne_eqb i p (λ q. no_some (first_empty_lem t ps i later_empty).0 (subst (λ (y : ℕ). t y ≡ some f) (sym q) s)) in
+      let off : eqb i p ≡ false = ne_eqb i p (λ q. no_some (first_empty_law t ps i later_empty).0 (subst (λ (y : ℕ). t y ≡ some f) (sym q) s)) in
       rw (put_off i p (some e) t off) (rw s (on (eqb (kind.key_of f) k)
       (λ m. let c : at p f ≡ nowhere = rw (s, m) at h in not_both c refl)
       (λ m. rw m (new_hit t k ps i e x (missed t k p ps h) later_empty)))))
@@ -286,7 +286,7 @@ module _ {E : Type 0} (kind : Keyed E) where
       on_found (search kind t k (kind.order k))
       (λ m. rw m (on_option (first_empty t (kind.order k))
       (λ a. rw a)
-      (λ i a. rw a (put_unseen t i (some e) other (other_key e other (λ y. n (y ∙ x)) ∙ sym (ap (λ (o : Option E). matching o other) (first_empty_lem t (kind.order k) i a).0 ∙ nothing_there other)) (kind.order other)))))
+      (λ i a. rw a (put_unseen t i (some e) other (other_key e other (λ y. n (y ∙ x)) ∙ sym (ap (λ (o : Option E). matching o other) (first_empty_law t (kind.order k) i a).0 ∙ nothing_there other)) (kind.order other)))))
       (λ i d m. let r = search_hit t k (kind.order k) i d m in
       rw m (put_unseen t i (some e) other (other_key e other (λ y. n (y ∙ x)) ∙ sym (ap (λ (o : Option E). matching o other) r.there ∙ other_key d other (λ y. n (y ∙ r.keyed)))) (kind.order other)))
 
@@ -325,7 +325,7 @@ module _ {E : Type 0} (kind : Keyed E) where
   table_theorems =
       record {
         first_match = λ t k i e h. first_match_in t k (kind.order k) i e h;
-        first_empty_lem = λ t k i h. first_empty_in t (kind.order k) i h;
+        first_empty_law = λ t k i h. first_empty_in t (kind.order k) i h;
         all_in_use = λ t k h. none_empty_in t (kind.order k) h;
         found_stands = found_stands;
         stands_found = found;

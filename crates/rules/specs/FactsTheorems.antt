@@ -45,7 +45,7 @@ module _ (s : Settings) (t : Table) (free p : ℕ) (k : Packet) where
     pub by_outermost : facts.bpdu ≡ false → (a : Tag) (rest : List Tag) → tags_of k.bytes ≡ a ∷ rest
         → facts.queue ≡ s.queue_of a.header.pcp
     pub by_default : facts.bpdu ≡ false → tags_of k.bytes ≡ [] → facts.queue ≡ s.queue_of (s.port p).default.pcp
-    pub bpdu_queue_lem : facts.bpdu ≡ true → facts.queue ≡ 3
+    pub bpdu_queue_law : facts.bpdu ≡ true → facts.queue ≡ 3
 
   -- "a group address, or one not found, has all members as candidates; one found has its port"
   pub record LookUpTheorems : Type 0 where
@@ -63,10 +63,10 @@ module _ (s : Settings) (t : Table) (free p : ℕ) (k : Packet) where
     pub vid : VidTheorems
     pub vlan : VlanTheorems
     pub queue : QueueTheorems
-    pub look_up_lem : LookUpTheorems
+    pub look_up_law : LookUpTheorems
     -- what came, and what its port is set to
     pub packet_is : facts.packet ≡ k
-    pub port_is_lem : facts.port ≡ p
+    pub port_is_law : facts.port ≡ p
     pub tags_are : facts.tags ≡ tags_of k.bytes
     pub default_is : facts.default ≡ (s.port p).default
     pub state_is : facts.state ≡ (s.port p).state
@@ -78,6 +78,6 @@ module _ (s : Settings) (t : Table) (free p : ℕ) (k : Packet) where
     pub bpdu_exactly : (facts.bpdu ≡ true)
         ↔ ((s.bpdu_handling ≡ true) × (p ≡ 4 → ⊥) × (destination k.bytes ≡ 0x0180_C200_0000))
     -- learned "under (GID, address)"
-    pub source_key_lem : facts.source_key ≡ facts.vlan.gid * 2 ^ 48 + source k.bytes
+    pub source_key_law : facts.source_key ≡ facts.vlan.gid * 2 ^ 48 + source k.bytes
     -- its cells outnumber the free ones
     pub outnumbers_exactly : (facts.outnumbers ≡ true) ↔ (free < cells (length k.bytes))

@@ -9,8 +9,8 @@ use Rattle.rules.specs.Arguments.{PortNumbers, port_of, VlanNumbers, vlan_entry}
 pub record OperationMeans (n : OperationNumbers) (o : Operation) : Type 0 where
   pub kind : o.kind ≡ kind_of n.kind
   pub type : o.type ≡ type_of n.type
-  pub vid_from_lem : o.vid_from ≡ source_of n.vid_source
-  pub pcp_from_lem : o.pcp_from ≡ source_of n.pcp_source
+  pub vid_from_law : o.vid_from ≡ source_of n.vid_source
+  pub pcp_from_law : o.pcp_from ≡ source_of n.pcp_source
   pub vid : o.header.vid ≡ n.vid
   pub pcp : o.header.pcp ≡ n.pcp
   pub dei : o.header.dei ≡ n.dei

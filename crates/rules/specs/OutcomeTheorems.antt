@@ -16,7 +16,7 @@ pub record OutcomeTheorems (f : Facts) (t : Table) : Type 0 where
   -- a frame that learns marks by its look-up, and then its source is learned for the arrival port; another changes
   -- nothing
   pub learned : learns f ≡ true → table_after f t ≡ learn (after_look_up f.look_up t) f.source_key f.port
-  pub not_learned_lem : learns f ≡ false → table_after f t ≡ t
+  pub not_learned_law : learns f ≡ false → table_after f t ≡ t
   -- "not learned": it was to be learned, and there was no place
   pub no_place_exactly : (is_not_learned f t ≡ true)
       ↔ ((learns f ≡ true) × (find (after_look_up f.look_up t) f.source_key ≡ nowhere)

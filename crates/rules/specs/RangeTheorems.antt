@@ -8,8 +8,8 @@ use Rattle.rules.specs.Arguments.{VlanNumbers, vlan_in_range}
 pub record OperationFits (n : OperationNumbers) : Type 0 where
   pub kind : n.kind ≤ 4
   pub type : n.type ≤ 1
-  pub vid_source_lem : n.vid_source ≤ 2
-  pub pcp_source_lem : n.pcp_source ≤ 2
+  pub vid_source_law : n.vid_source ≤ 2
+  pub pcp_source_law : n.pcp_source ≤ 2
   pub vid : n.vid ≤ 4094
   pub pcp : n.pcp ≤ 7
   pub dei : n.dei ≤ 1

@@ -22,6 +22,6 @@ pub record ReadingTheorems : Type 0 where
   -- "the group bit is bit 0 of an address's first byte"
   pub group_destination : (bytes : List ℕ) → Bytes bytes
       → (is_group (destination bytes) ≡ true) ↔ (get_or bytes 0 0 % 2 ≡ 1)
-  pub group_source_lem : (bytes : List ℕ) → Bytes bytes → (is_group (source bytes) ≡ true) ↔ (get_or bytes 6 0 % 2 ≡ 1)
+  pub group_source_law : (bytes : List ℕ) → Bytes bytes → (is_group (source bytes) ≡ true) ↔ (get_or bytes 6 0 % 2 ≡ 1)
   -- the two tag types, and no other
   pub types_exactly : (n : ℕ) → (is_tag_type n ≡ true) ↔ TagType n

@@ -18,7 +18,7 @@ pub record TableTheorems {E : Type 0} (kind : Keyed E) : Type 0 where
   -- "The first match ends it", and "the first empty place in that order".
   pub first_match : (t : TableOf E) (k i : ℕ) (e : E) → find_in kind t k ≡ at i e
       → FirstPlace (λ (j : ℕ). (d : E) × (t j ≡ some d) × (kind.key_of d ≡ k)) (kind.order k) i
-  pub first_empty_lem : (t : TableOf E) (k i : ℕ) → empty_in kind t k ≡ some i
+  pub first_empty_law : (t : TableOf E) (k i : ℕ) → empty_in kind t k ≡ some i
       → FirstPlace (λ (j : ℕ). t j ≡ none) (kind.order k) i
   pub all_in_use : (t : TableOf E) (k : ℕ) → empty_in kind t k ≡ none → Each (λ (j : ℕ). t j ≡ none → ⊥) (kind.order k)
   -- What is found stands there, under that key, and in one of the key's places.

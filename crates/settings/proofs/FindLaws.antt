@@ -14,7 +14,7 @@ use Rattle.settings.specs.Ports.{is_vid_word, vlan_in}
 use Rattle.settings.specs.Records.{vlan_at}
 use Rattle.settings.specs.Table.{vlan_count, entry_at, vid_at, find_from, found_vlan}
 use Rattle.settings.specs.SettingsOf.{vlans_from, vlans_of}
-use Rattle.settings.proofs.TableLaws.{vlans_in_use_lem}
+use Rattle.settings.proofs.TableLaws.{vlans_in_use_law}
 use Rattle.settings.specs.declared.table.Found.{Found}
 use Rattle.settings.specs.declared.table.Found.TheVariants.{At, Nowhere, Damaged}
 
@@ -158,27 +158,27 @@ module _ (l : List ℕ) (vid : ℕ) where
     pub in_use : e < vlan_count l
     pub has_vid : vid_at l e ≡ vid
     pub none_before : (i : ℕ) → i < e → vid_at l i ≡ vid → ⊥
-    pub is_there_lem : is_there (vlans_of l) vid ≡ true
+    pub is_there_law : is_there (vlans_of l) vid ≡ true
     pub is_entry : vlan_of (vlans_of l) vid ≡ vlan_entry (vlan_at l e)
 
   pub found_there : (e : ℕ) → found_vlan l vid ≡ At e → There e
   found_there e q =
       let few = found_count (λ d. not_damaged e (sym d ∙ q)) in
       let f = found_at (vlan_count l) l 0 vid e (sym (found_few few) ∙ q) in
-      let vs = vlans_in_use_lem l (vlan_count l) refl few in
+      let vs = vlans_in_use_law l (vlan_count l) refl few in
       record {
         few = few;
         in_use = omega (arith, f.below);
         has_vid = f.match;
         none_before = λ i h. f.first i (omega arith) h;
-        is_there_lem = rw vs f.there;
+        is_there_law = rw vs f.there;
         is_entry = rw vs f.entry;
       }
 
   pub found_nowhere : found_vlan l vid ≡ Nowhere → is_there (vlans_of l) vid ≡ false
   found_nowhere q =
       let few = found_count (λ d. damaged_somewhere (sym d ∙ q)) in
-      rw (vlans_in_use_lem l (vlan_count l) refl few) (nowhere_from (vlan_count l) l 0 vid (sym (found_few few) ∙ q))
+      rw (vlans_in_use_law l (vlan_count l) refl few) (nowhere_from (vlan_count l) l 0 vid (sym (found_few few) ∙ q))
 
   -- memory in range is never found damaged
   pub found_undamaged :

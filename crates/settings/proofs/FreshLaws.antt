@@ -8,7 +8,7 @@ use borrow.Author.Tests.{eqb-true, eq-eqb, not-true}
 use lib.Dec.{eqb, lit<}
 use lib.Bits.{bit_and, and_le_l}
 use Rattle.rules.specs.Arguments.{OperationNumbers, bit}
-use Rattle.layout.proofs.BitLaws.{bit_and_lem, zero_bits, five, all, each}
+use Rattle.layout.proofs.BitLaws.{bit_and_law, zero_bits, five, all, each}
 use Rattle.settings.specs.Operations.{operation_in, is_operation_word}
 use Rattle.settings.specs.Ports.{port_in, vlan_in, is_vid_word}
 use Rattle.settings.specs.States.{state_in, state_number, is_states_word}
@@ -16,9 +16,9 @@ use Rattle.settings.specs.Switches.{switch_in, is_switches_word, unused_switches
 use Rattle.settings.specs.Maps.{queue_in, bpdu_in, is_map_word}
 use Rattle.settings.specs.Fresh.{fresh_states, fresh_switches, fresh_map, fresh_port_word, fresh_vlan_word, fresh_operation_word}
 
-pub fresh_states_lem : (is_states_word fresh_states ≡ true) × ((p : ℕ) → p < 5 → state_in fresh_states p ≡ 0)
+pub fresh_states_law : (is_states_word fresh_states ≡ true) × ((p : ℕ) → p < 5 → state_in fresh_states p ≡ 0)
 unfolding is_states_word state_in state_number bit
-fresh_states_lem = (refl, five (λ p. state_in fresh_states p ≡ 0) refl refl refl refl refl)
+fresh_states_law = (refl, five (λ p. state_in fresh_states p ≡ 0) refl refl refl refl refl)
 
 switch_test : ℕ → Bool
 switch_test i = not (bit fresh_switches i && bit unused_switches i)
@@ -28,11 +28,11 @@ unfolding is_switches_word bit all switch_test
 fresh_switches_good =
     eq-eqb _ 0
     (zero_bits 32 (bit_and fresh_switches unused_switches) (lt_of_le_of_lt (and_le_l fresh_switches unused_switches) (lit< tt))
-    (λ i l. bit_and_lem fresh_switches unused_switches i ∙ not-true _ (each 32 switch_test refl i l)))
+    (λ i l. bit_and_law fresh_switches unused_switches i ∙ not-true _ (each 32 switch_test refl i l)))
 
-pub fresh_switches_lem : (p q : ℕ) → p < 5 → q < 4 → switch_in fresh_switches p q ≡ true
+pub fresh_switches_law : (p q : ℕ) → p < 5 → q < 4 → switch_in fresh_switches p q ≡ true
 unfolding switch_in bit
-fresh_switches_lem p q h k =
+fresh_switches_law p q h k =
     five (λ q. q < 4 → switch_in fresh_switches p q ≡ true)
     (λ _. five (λ p. switch_in fresh_switches p 0 ≡ true) refl refl refl refl refl p h)
     (λ _. five (λ p. switch_in fresh_switches p 1 ≡ true) refl refl refl refl refl p h)
@@ -43,23 +43,23 @@ fresh_switches_lem p q h k =
 queue_test : ℕ → Bool
 queue_test pcp = eqb (queue_in fresh_map pcp) (pcp / 2)
 
-pub fresh_map_lem : (is_map_word fresh_map ≡ true) × (bpdu_in fresh_map ≡ true) × ((pcp : ℕ) → pcp < 8 → queue_in fresh_map pcp ≡ pcp / 2)
+pub fresh_map_law : (is_map_word fresh_map ≡ true) × (bpdu_in fresh_map ≡ true) × ((pcp : ℕ) → pcp < 8 → queue_in fresh_map pcp ≡ pcp / 2)
 unfolding bpdu_in queue_in bit all queue_test
-fresh_map_lem = (refl, refl, λ pcp h. eqb-true _ _ (each 8 queue_test refl pcp h))
+fresh_map_law = (refl, refl, λ pcp h. eqb-true _ _ (each 8 queue_test refl pcp h))
 
-pub fresh_operation_lem :
+pub fresh_operation_law :
     (is_operation_word fresh_operation_word ≡ true)
     × (operation_in fresh_operation_word ≡ record { kind = 0; type = 0; vid_source = 2; pcp_source = 2; vid = 0; pcp = 0; dei = 0 })
 unfolding operation_in
-fresh_operation_lem = (refl, refl)
+fresh_operation_law = (refl, refl)
 
-pub fresh_port_lem : (o : OperationNumbers)
+pub fresh_port_law : (o : OperationNumbers)
     → (is_vid_word fresh_port_word ≡ true)
     × (port_in 0 o fresh_port_word ≡ record { state = 0; assignment = 1; vid = 1; pcp = 0; dei = 0; flags = 0; operation = o })
 unfolding port_in
-fresh_port_lem o = (refl, refl)
+fresh_port_law o = (refl, refl)
 
-pub fresh_vlan_lem : (o : OperationNumbers)
+pub fresh_vlan_law : (o : OperationNumbers)
     → (is_vid_word fresh_vlan_word ≡ true) × (vlan_in o fresh_vlan_word ≡ record { vid = 1; members = 31; gid = 0; operation = o })
 unfolding vlan_in
-fresh_vlan_lem o = (refl, refl)
+fresh_vlan_law o = (refl, refl)

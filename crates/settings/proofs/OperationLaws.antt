@@ -62,9 +62,9 @@ module _ (n : OperationNumbers) (h : operation_in_range n ≡ true) where
   operation_word_small = word_small n (operation_range n h)
 
 -- what a word in range holds is in the rules' ranges
-pub operation_in_range_lem : (w : ℕ) → is_operation_word w ≡ true → operation_in_range (operation_in w) ≡ true
+pub operation_in_range_law : (w : ℕ) → is_operation_word w ≡ true → operation_in_range (operation_in w) ≡ true
 unfolding operation_in operation_in_range
-operation_in_range_lem w h =
+operation_in_range_law w h =
     let s = ltb-true w operation_end h in
     rw (
       le-leb (min (w % 8) 4) 4 (omega arith),
@@ -89,24 +89,24 @@ good_stored w h = let s = ltb-true w operation_end h in (le-leb w operation_end 
 
 -- ---- as the rules read it: every kind, source and type
 
-kind_number_lem : (k : ℕ) → kind_of (min k 4) ≡ kind_of k
+kind_number_law : (k : ℕ) → kind_of (min k 4) ≡ kind_of k
 unfolding kind_of
-kind_number_lem zero = refl
-kind_number_lem (suc zero) = refl
-kind_number_lem (suc (suc zero)) = refl
-kind_number_lem (suc (suc (suc zero))) = refl
-kind_number_lem (suc (suc (suc (suc k)))) = let e : min (suc (suc (suc (suc k)))) 4 ≡ 4 = omega arith in rw e
+kind_number_law zero = refl
+kind_number_law (suc zero) = refl
+kind_number_law (suc (suc zero)) = refl
+kind_number_law (suc (suc (suc zero))) = refl
+kind_number_law (suc (suc (suc (suc k)))) = let e : min (suc (suc (suc (suc k)))) 4 ≡ 4 = omega arith in rw e
 
-source_number_lem : (k : ℕ) → source_of (min k 2) ≡ source_of k
+source_number_law : (k : ℕ) → source_of (min k 2) ≡ source_of k
 unfolding source_of
-source_number_lem zero = refl
-source_number_lem (suc zero) = refl
-source_number_lem (suc (suc k)) = let e : min (suc (suc k)) 2 ≡ 2 = omega arith in rw e
+source_number_law zero = refl
+source_number_law (suc zero) = refl
+source_number_law (suc (suc k)) = let e : min (suc (suc k)) 2 ≡ 2 = omega arith in rw e
 
 module _ (w : ℕ) where
-  pub kind_in_lem : (operation_of (operation_in w)).kind ≡ kind_of (w % 8)
+  pub kind_in_law : (operation_of (operation_in w)).kind ≡ kind_of (w % 8)
   unfolding operation_of operation_in
-  kind_in_lem = kind_number_lem (w % 8)
+  kind_in_law = kind_number_law (w % 8)
 
   pub type_in : (operation_of (operation_in w)).type ≡ type_of (w / 8 % 2)
   unfolding operation_of operation_in
@@ -114,11 +114,11 @@ module _ (w : ℕ) where
 
   pub vid_source_in : (operation_of (operation_in w)).vid_from ≡ source_of (w / 16 % 4)
   unfolding operation_of operation_in
-  vid_source_in = source_number_lem (w / 16 % 4)
+  vid_source_in = source_number_law (w / 16 % 4)
 
   pub pcp_source_in : (operation_of (operation_in w)).pcp_from ≡ source_of (w / 64 % 4)
   unfolding operation_of operation_in
-  pcp_source_in = source_number_lem (w / 64 % 4)
+  pcp_source_in = source_number_law (w / 64 % 4)
 
 -- each kind has a number in range of its own, and so has each source
 unfoldable pub kind_number : Operations.Kind → ℕ
@@ -176,4 +176,4 @@ pub operation_parts :
     (w header : ℕ) → header_of header ≡ (operation_of (operation_in w)).header
     → record { kind = kind_of (w % 8); type = type_of (w / 8 % 2); vid_from = source_of (w / 16 % 4); pcp_from = source_of (w / 64 % 4); header = header_of header }
     ≡ operation_of (operation_in w)
-operation_parts w header e = same_parts (sym (kind_in_lem w)) (sym (type_in w)) (sym (vid_source_in w)) (sym (pcp_source_in w)) e
+operation_parts w header e = same_parts (sym (kind_in_law w)) (sym (type_in w)) (sym (vid_source_in w)) (sym (pcp_source_in w)) e

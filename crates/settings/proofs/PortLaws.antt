@@ -23,12 +23,12 @@ pub vid_word : (w : ℕ) → is_vid_word w ≡ true → VidWord w
 vid_word w h =
     record { least = leb-true _ _ (and_left (leb vid_start w) (ltb w vid_end) h); most = ltb-true _ _ (and_right (leb vid_start w) (ltb w vid_end) h) }
 
-is_vid_word_lem : (w : ℕ) → vid_start ≤ w → w < vid_end → is_vid_word w ≡ true
-is_vid_word_lem w a b = rw (le-leb vid_start w a, lt-ltb w vid_end b)
+is_vid_word_law : (w : ℕ) → vid_start ≤ w → w < vid_end → is_vid_word w ≡ true
+is_vid_word_law w a b = rw (le-leb vid_start w a, lt-ltb w vid_end b)
 
-is_vid_lem : (vid : ℕ) → 1 ≤ vid → vid ≤ 4094 → is_vid vid ≡ true
+is_vid_law : (vid : ℕ) → 1 ≤ vid → vid ≤ 4094 → is_vid vid ≡ true
 unfolding is_vid
-is_vid_lem vid a b = rw (le-leb 1 vid a, le-leb vid 4094 b)
+is_vid_law vid a b = rw (le-leb 1 vid a, le-leb vid 4094 b)
 
 -- ---- a port
 
@@ -52,19 +52,19 @@ module _ (n : PortNumbers) (h : port_in_range n ≡ true) where
   pub port_word_good : is_vid_word (port_word n) ≡ true
   port_word_good =
       let r = port_range n h in
-      is_vid_word_lem (port_word n) (omega (arith, r.vid.least)) (omega (arith, r.vid.most, r.assignment, r.flags, r.dei, r.pcp))
+      is_vid_word_law (port_word n) (omega (arith, r.vid.least)) (omega (arith, r.vid.most, r.assignment, r.flags, r.dei, r.pcp))
 
 -- what words in range hold is in the rules' ranges
-pub port_in_range_lem :
+pub port_in_range_law :
     (state : ℕ) (operation : OperationNumbers) (w : ℕ) → state ≤ 4 → operation_in_range operation ≡ true → is_vid_word w ≡ true
     → port_in_range (port_in state operation w) ≡ true
 unfolding port_in port_in_range
-port_in_range_lem state operation w s o h =
+port_in_range_law state operation w s o h =
     let v = vid_word w h in
     rw (
       le-leb state 4 s,
       le-leb (min (w % 4) 2) 2 (omega arith),
-      is_vid_lem (w / 512) (omega (arith, v.least)) (omega (arith, v.most)),
+      is_vid_law (w / 512) (omega (arith, v.least)) (omega (arith, v.most)),
       le-leb (w / 64 % 8) 7 (omega arith),
       le-leb (w / 32 % 2) 1 (omega arith),
       le-leb (w / 4 % 8) 7 (omega arith),
@@ -90,14 +90,14 @@ module _ (n : VlanNumbers) (h : vlan_in_range n ≡ true) where
   pub vlan_word_good : is_vid_word (vlan_word n) ≡ true
   vlan_word_good =
       let r = vlan_range n h in
-      is_vid_word_lem (vlan_word n) (omega (arith, r.vid.least)) (omega (arith, r.vid.most, r.members, r.gid))
+      is_vid_word_law (vlan_word n) (omega (arith, r.vid.least)) (omega (arith, r.vid.most, r.members, r.gid))
 
-pub vlan_in_range_lem :
+pub vlan_in_range_law :
     (operation : OperationNumbers) (w : ℕ) → operation_in_range operation ≡ true → is_vid_word w ≡ true → vlan_in_range (vlan_in operation w) ≡ true
 unfolding vlan_in vlan_in_range
-vlan_in_range_lem operation w o h =
+vlan_in_range_law operation w o h =
     let v = vid_word w h in
-    rw (is_vid_lem (w / 512) (omega (arith, v.least)) (omega (arith, v.most)), le-leb (w % 32) 31 (omega arith), le-leb (w / 32 % 16) 15 (omega arith), o)
+    rw (is_vid_law (w / 512) (omega (arith, v.least)) (omega (arith, v.most)), le-leb (w % 32) 31 (omega arith), le-leb (w / 32 % 16) 15 (omega arith), o)
 
 -- ---- what a frame's way reads
 
@@ -119,18 +119,18 @@ header_parts : (p e v : ℕ) → p < 8 → e < 2 → v < 4096 → header_of ((p 
 unfolding header_of
 header_parts p e v h k l = same_header (omega arith) (omega arith) (omega arith)
 
-pub header_in_lem : (state : ℕ) (operation : OperationNumbers) (w : ℕ) → w < vid_end → header_of (header_in w) ≡ (port_of (port_in state operation w)).default
+pub header_in_law : (state : ℕ) (operation : OperationNumbers) (w : ℕ) → w < vid_end → header_of (header_in w) ≡ (port_of (port_in state operation w)).default
 unfolding port_of port_in
-header_in_lem state operation w h =
+header_in_law state operation w h =
     let s : w / 32 % 16 ≡ w / 64 % 8 * 2 + w / 32 % 2 = omega arith in
     ap (λ (x : ℕ). header_of (x * 4096 + w / 512)) s
     ∙ header_parts (w / 64 % 8) (w / 32 % 2) (w / 512) (omega arith) (omega arith) (omega arith)
 
 -- ---- the default header as a frame is stored with it
 
-pub default_in_lem : (state : ℕ) (operation : OperationNumbers) (w : ℕ) → default_of (default_in w) ≡ (port_of (port_in state operation w)).default
+pub default_in_law : (state : ℕ) (operation : OperationNumbers) (w : ℕ) → default_of (default_in w) ≡ (port_of (port_in state operation w)).default
 unfolding port_of port_in default_of
-default_in_lem state operation w = same_header (omega arith) refl (omega arith)
+default_in_law state operation w = same_header (omega arith) refl (omega arith)
 
 pub default_back : (h : Header) → h.pcp < 8 → h.dei < 2 → default_of (default_number h) ≡ h
 unfolding default_of default_number

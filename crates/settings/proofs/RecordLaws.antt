@@ -89,8 +89,8 @@ module _ (l : List ℕ) (e : ℕ) (n : VlanNumbers) (long : fixed_words ≤ leng
   entry_inside : (k : ℕ) → k < 2 → get_or (sets l (vlan_word e) (vlan_words n)) (vlan_word e + k) 0 ≡ get_or (vlan_words n) k 0
   entry_inside k hk = get_d_sets_inside l (vlan_word e) (vlan_words n) k 0 (omega arith) hk
 
-  pub vlan_written_lem : get_or (sets l (vlan_word e) (vlan_words n)) (vlan_word e) 0 ≡ Packed.vlan_word n
-  vlan_written_lem =
+  pub vlan_written_law : get_or (sets l (vlan_word e) (vlan_words n)) (vlan_word e) 0 ≡ Packed.vlan_word n
+  vlan_written_law =
       let at : vlan_word e + 0 ≡ vlan_word e = omega arith in
       rw at at (entry_inside 0 (omega arith))
 
@@ -101,4 +101,4 @@ module _ (l : List ℕ) (e : ℕ) (n : VlanNumbers) (long : fixed_words ≤ leng
       rw at at (entry_inside 1 (omega arith))
 
   pub vlan_read_back : vlan_in_range n ≡ true → vlan_at (sets l (vlan_word e) (vlan_words n)) e ≡ n
-  vlan_read_back good = rw (vlan_written_lem, vlan_operation_written) (vlan_words_back n good)
+  vlan_read_back good = rw (vlan_written_law, vlan_operation_written) (vlan_words_back n good)

@@ -6,9 +6,9 @@ use mathlib.Core.Bool.{true}
 use Rattle.rules.specs.Arguments.{OperationNumbers, PortNumbers, port_in_range, VlanNumbers, vlan_in_range}
 use Rattle.settings.proofs.RangeLaws.{port_range, vlan_range}
 use Rattle.settings.specs.Operations.{operation_in, operation_word, is_operation_word}
-use Rattle.settings.proofs.OperationLaws.{range_back, operation_in_range_lem}
+use Rattle.settings.proofs.OperationLaws.{range_back, operation_in_range_law}
 use Rattle.settings.specs.Ports.{port_in, port_word, is_vid_word, vlan_in, vlan_word}
-use Rattle.settings.proofs.PortLaws.{port_back, port_in_range_lem, vlan_back, vlan_in_range_lem}
+use Rattle.settings.proofs.PortLaws.{port_back, port_in_range_law, vlan_back, vlan_in_range_law}
 use Rattle.settings.specs.States.{state_in, with_state}
 use Rattle.settings.proofs.StateLaws.{state_set, state_kept, state_small}
 use Rattle.settings.specs.Settings.{port_of_words, vlan_of_words}
@@ -31,7 +31,7 @@ pub port_words_good :
     (states own operation port : ℕ) → is_vid_word own ≡ true → is_operation_word operation ≡ true
     → port_in_range (port_of_words states own operation port) ≡ true
 port_words_good states own operation port v o =
-    port_in_range_lem (state_in states port) (operation_in operation) own (state_small states port) (operation_in_range_lem operation o) v
+    port_in_range_law (state_in states port) (operation_in operation) own (state_small states port) (operation_in_range_law operation o) v
 
 pub vlan_words_back : (n : VlanNumbers) → vlan_in_range n ≡ true → vlan_of_words (vlan_word n) (operation_word n.operation) ≡ n
 vlan_words_back n good =
@@ -39,4 +39,4 @@ vlan_words_back n good =
 
 pub vlan_words_good :
     (own operation : ℕ) → is_vid_word own ≡ true → is_operation_word operation ≡ true → vlan_in_range (vlan_of_words own operation) ≡ true
-vlan_words_good own operation v o = vlan_in_range_lem (operation_in operation) own (operation_in_range_lem operation o) v
+vlan_words_good own operation v o = vlan_in_range_law (operation_in operation) own (operation_in_range_law operation o) v

@@ -46,7 +46,7 @@ module _ (l : List ℕ) (p : ℕ) (n : PortNumbers) (long : fixed_words ≤ leng
       (front (vlan_word e) (omega arith) (λ s. omega arith))
       (front (vlan_operation_word e) (omega arith) (λ s. omega arith)))
 
-  pub port_written_lem :
+  pub port_written_law :
       settings_of (port_written l p n)
       ≡ record {
         port = changed p (port_of n) (settings_of l).port;
@@ -56,7 +56,7 @@ module _ (l : List ℕ) (p : ℕ) (n : PortNumbers) (long : fixed_words ≤ leng
         bpdu_handling = (settings_of l).bpdu_handling;
       }
   unfolding settings_of
-  port_written_lem =
+  port_written_law =
       rw (port_changed, vlans_same, front map_word (omega arith) (λ e. omega arith), front switches_word (omega arith) (λ e. omega arith))
 
 -- ---- one word before the VLANs' written: all that does not stand in it is kept
@@ -106,7 +106,7 @@ queue_changed word pcp queue h small =
       | no k ↦ let past : 8 ≤ j = omega arith in rw (le-ltb j 8 past)
     ])
 
-pub queue_written_lem :
+pub queue_written_law :
     (l : List ℕ) (pcp queue : ℕ) → fixed_words ≤ length l → pcp < 8 → queue ≤ 3
     → settings_of (set l map_word (with_queue (map_at l) pcp queue))
     ≡ record {
@@ -117,7 +117,7 @@ pub queue_written_lem :
       bpdu_handling = (settings_of l).bpdu_handling;
     }
 unfolding settings_of
-queue_written_lem l pcp queue long h small =
+queue_written_law l pcp queue long h small =
     map_set l (with_queue (map_at l) pcp queue) long
     ∙ rw (queue_changed (map_at l) pcp queue h small, queue_keeps_bpdu (map_at l) pcp queue h)
 
@@ -130,7 +130,7 @@ queues_kept word b =
       | no h ↦ let past : 8 ≤ pcp = omega arith in rw (le-ltb pcp 8 past)
     ])
 
-pub bpdu_written_lem :
+pub bpdu_written_law :
     (l : List ℕ) (on : Bool) → fixed_words ≤ length l
     → settings_of (set l map_word (with_bpdu (map_at l) on))
     ≡ record {
@@ -141,7 +141,7 @@ pub bpdu_written_lem :
       bpdu_handling = on;
     }
 unfolding settings_of
-bpdu_written_lem l on long = map_set l (with_bpdu (map_at l) on) long ∙ rw (queues_kept (map_at l) on, bpdu_set (map_at l) on)
+bpdu_written_law l on long = map_set l (with_bpdu (map_at l) on) long ∙ rw (queues_kept (map_at l) on, bpdu_set (map_at l) on)
 
 -- ---- a queue's switch
 
@@ -174,7 +174,7 @@ module _ (word p q : ℕ) (b : Bool) (hp : p < 5) (hq : q < 4) where
         | no k ↦ switches_past (with_switch word p q b) j (omega arith) ∙ sym (switches_past word j (omega arith))
       ])
 
-pub switch_written_lem :
+pub switch_written_law :
     (l : List ℕ) (p q : ℕ) (on : Bool) → fixed_words ≤ length l → p < 5 → q < 4
     → settings_of (set l switches_word (with_switch (switches_at l) p q on))
     ≡ record {
@@ -185,7 +185,7 @@ pub switch_written_lem :
       bpdu_handling = (settings_of l).bpdu_handling;
     }
 unfolding settings_of
-switch_written_lem l p q on long hp hq =
+switch_written_law l p q on long hp hq =
     let v = with_switch (switches_at l) p q on in
     rw (
       word_keeps_ports l switches_word v (omega arith) (λ e. omega arith),
@@ -239,18 +239,18 @@ vlan_replaced l e n long good few there =
     table_kept l (vlan_word e) (vlan_words n) (omega arith) (omega arith)
     ∙ ap (λ (vs : List Vlan). with_vlans vs (settings_of l)) (vlans_replaced l e n long good few there)
 
-pub vlan_added_lem :
+pub vlan_added_law :
     (l : List ℕ) (n : VlanNumbers) → fixed_words ≤ length l → vlan_in_range n ≡ true → vlan_count l < 16
     → settings_of (added_vlan l n) ≡ with_vlans (vlans_of l ++ (vlan_entry n ∷ [])) (settings_of l)
 unfolding added_vlan
-vlan_added_lem l n long good few =
+vlan_added_law l n long good few =
     both_kept l (vlan_word (vlan_count l)) (vlan_words n) (vlan_count l + 1) (omega arith) (omega arith)
     ∙ ap (λ (vs : List Vlan). with_vlans vs (settings_of l)) (vlans_added l n long good few)
 
-pub vlan_cleared_lem :
+pub vlan_cleared_law :
     (l : List ℕ) (e : ℕ) → fixed_words ≤ length l → e < vlan_count l → vlan_count l ≤ 16
     → settings_of (cleared_vlan l e) ≡ with_vlans (take e (vlans_of l) ++ drop (e + 1) (vlans_of l)) (settings_of l)
 unfolding cleared_vlan
-vlan_cleared_lem l e long there few =
+vlan_cleared_law l e long there few =
     both_kept l (vlan_word e) (later_words l e ++ replicate 2 0) (vlan_count l - 1) (omega arith) (omega (arith, run_length l e long there few))
     ∙ ap (λ (vs : List Vlan). with_vlans vs (settings_of l)) (vlans_cleared l e long there few)

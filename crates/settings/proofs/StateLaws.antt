@@ -12,15 +12,15 @@ use Rattle.rules.specs.Choice.{if◌then◌else◌}
 use Rattle.rules.proofs.Choice.{on, and_false, and_left, and_right}
 use Rattle.rules.specs.Arguments.{bit, state_of}
 use Rattle.rules.specs.Settings.{departs, is_blocking, is_listening, is_learning}
-use Rattle.layout.proofs.BitLaws.{bit_and_lem, bit_or_lem, bit_shift, bits_zero, no_bit_zero, same_bits, all, each, written_there, written_elsewhere, five}
+use Rattle.layout.proofs.BitLaws.{bit_and_law, bit_or_law, bit_shift, bits_zero, no_bit_zero, same_bits, all, each, written_there, written_elsewhere, five}
 use Rattle.settings.specs.States.{unused_states, is_states_word, state_number, state_in, opens, with_state, bar_number}
 
 -- ---- the range, bit by bit
 
 joined : (w i : ℕ) → bit (bit_and w (bit_or (w / 256) unused_states)) i ≡ (bit w i && (bit w (8 + i) || bit unused_states i))
 joined w i =
-    bit_and_lem w (bit_or (w / 256) unused_states) i
-    ∙ ap (λ (b : Bool). bit w i && b) (bit_or_lem (w / 256) unused_states i ∙ ap (λ (b : Bool). b || bit unused_states i) (bit_shift w 8 i))
+    bit_and_law w (bit_or (w / 256) unused_states) i
+    ∙ ap (λ (b : Bool). bit w i && b) (bit_or_law (w / 256) unused_states i ∙ ap (λ (b : Bool). b || bit unused_states i) (bit_shift w 8 i))
 
 good_apart : (w : ℕ) → is_states_word w ≡ true → (i : ℕ) → (bit w i && (bit w (8 + i) || bit unused_states i)) ≡ false
 unfolding is_states_word
@@ -182,17 +182,17 @@ open_in w p = opens_number (bit w p) (bit w (8 + p)) (bit w (16 + p))
 unfoldable pub bar_of : Bool → Bool → Bool → ℕ
 bar_of o n t = if o then 0 else (if n then 6 else (if t then 0 else 5))
 
-bar_number_lem : (o n t : Bool) → bar_number (state_of (state_number o n t)) ≡ bar_of o n t
+bar_number_law : (o n t : Bool) → bar_number (state_of (state_number o n t)) ≡ bar_of o n t
 unfolding bar_number bar_of is_blocking is_listening state_of state_number
-bar_number_lem true n true = refl
-bar_number_lem true n false = refl
-bar_number_lem false true t = refl
-bar_number_lem false false true = refl
-bar_number_lem false false false = refl
+bar_number_law true n true = refl
+bar_number_law true n false = refl
+bar_number_law false true t = refl
+bar_number_law false false true = refl
+bar_number_law false false false = refl
 
 pub bar_in : (w p : ℕ) → bar_number (state_of (state_in w p)) ≡ bar_of (bit w p) (bit w (8 + p)) (bit w (16 + p))
 unfolding state_in
-bar_in w p = bar_number_lem (bit w p) (bit w (8 + p)) (bit w (16 + p))
+bar_in w p = bar_number_law (bit w p) (bit w (8 + p)) (bit w (16 + p))
 
 learning_number : (o n t : Bool) → is_learning (state_of (state_number o n t)) ≡ (not o && not n && t)
 unfolding is_learning state_of state_number

@@ -8,13 +8,13 @@ use lib.Dec.{eqb}
 use lib.Bits.{bit_and}
 use Rattle.rules.proofs.Choice.{on, and_false}
 use Rattle.rules.specs.Arguments.{bit}
-use Rattle.layout.proofs.BitLaws.{bit_and_lem, bit_shift, bits_zero, no_bit_zero, written_there, written_elsewhere, five}
+use Rattle.layout.proofs.BitLaws.{bit_and_law, bit_shift, bits_zero, no_bit_zero, written_there, written_elsewhere, five}
 use Rattle.settings.specs.Switches.{unused_switches, is_switches_word, switch_in, with_switch}
 
 -- the switches of one queue as a mask of ports
-pub switches_of_lem : (w port queue : ℕ) → bit (w / 2 ^ (8 * queue)) port ≡ switch_in w port queue
+pub switches_of_law : (w port queue : ℕ) → bit (w / 2 ^ (8 * queue)) port ≡ switch_in w port queue
 unfolding switch_in
-switches_of_lem w port queue = bit_shift w (8 * queue) port
+switches_of_law w port queue = bit_shift w (8 * queue) port
 
 -- ---- one switch set
 
@@ -56,8 +56,8 @@ switch_good w port queue b h k g =
     let at = 8 * queue + port in
     eq-eqb _ 0
     (no_bit_zero (bit_and w' unused_switches)
-    (λ i. bit_and_lem w' unused_switches i
+    (λ i. bit_and_law w' unused_switches i
     ∙ on (eqb at i)
     (λ e. let q : at ≡ i = eqb-true at i e in ap (λ (u : Bool). bit w' i && u) (ap (bit unused_switches) (sym q) ∙ used port queue h k) ∙ and_false (bit w' i))
     (λ o. ap (λ (u : Bool). u && bit unused_switches i) (kept w port queue b i (eqb-false at i o))
-    ∙ sym (bit_and_lem w unused_switches i) ∙ bits_zero _ (eqb-true _ _ g) i)))
+    ∙ sym (bit_and_law w unused_switches i) ∙ bits_zero _ (eqb-true _ _ g) i)))

@@ -65,17 +65,17 @@ vlans_from_at (suc k) l e (suc i) d h =
     let s : e + suc i ≡ e + 1 + i = omega arith in rw s (vlans_from_at k l (e + 1) i d (omega arith))
 
 -- the entries in use
-pub vlans_in_use_lem : (l : List ℕ) (n : ℕ) → vlan_count l ≡ n → n ≤ 16 → vlans_of l ≡ vlans_from n l 0
+pub vlans_in_use_law : (l : List ℕ) (n : ℕ) → vlan_count l ≡ n → n ≤ 16 → vlans_of l ≡ vlans_from n l 0
 unfolding vlans_of
-vlans_in_use_lem l n e h = let m : min (vlan_count l) 16 ≡ n = omega arith in rw m
+vlans_in_use_law l n e h = let m : min (vlan_count l) 16 ≡ n = omega arith in rw m
 
 pub vlans_length : (l : List ℕ) → vlan_count l ≤ 16 → length (vlans_of l) ≡ vlan_count l
-vlans_length l h = rw (vlans_in_use_lem l (vlan_count l) refl h) (vlans_from_length (vlan_count l) l 0)
+vlans_length l h = rw (vlans_in_use_law l (vlan_count l) refl h) (vlans_from_length (vlan_count l) l 0)
 
 pub vlans_at : (l : List ℕ) (e : ℕ) (d : Vlan) → vlan_count l ≤ 16 → e < vlan_count l → get_or (vlans_of l) e d ≡ vlan_entry (vlan_at l e)
 vlans_at l e d h k =
     let z : 0 + e ≡ e = omega arith in
-    rw (vlans_in_use_lem l (vlan_count l) refl h) (vlans_from_at (vlan_count l) l 0 e d k ∙ rw z)
+    rw (vlans_in_use_law l (vlan_count l) refl h) (vlans_from_at (vlan_count l) l 0 e d k ∙ rw z)
 
 -- ---- another entry written
 
@@ -160,9 +160,9 @@ vlans_added l n long good few =
     let m = sets l (vlan_word c) (vlan_words n) in
     let size : fixed_words ≤ length m = omega (arith, length-sets l (vlan_word c) (vlan_words n)) in
     let zero_first : 0 + c ≡ c = omega arith in
-    vlans_in_use_lem (set m vlan_count_word (c + 1)) (c + 1) (count_set m (c + 1) size) (omega arith)
+    vlans_in_use_law (set m vlan_count_word (c + 1)) (c + 1) (count_set m (c + 1) size) (omega arith)
     ∙ vlans_from_last c (set m vlan_count_word (c + 1)) 0
-    ∙ rw (zero_first, entry_kept m (c + 1) size c, written l c n long few good, vlans_in_use_lem l c refl (omega arith))
+    ∙ rw (zero_first, entry_kept m (c + 1) size c, written l c n long few good, vlans_in_use_law l c refl (omega arith))
     (ap (λ (vs : List Vlan). vs ++ (vlan_entry n ∷ []))
     (vlans_from_alike c (set m vlan_count_word (c + 1)) l 0 0
     (λ i h. let z : 0 + i ≡ i = omega arith in rw z (entry_kept m (c + 1) size i ∙ unwritten l c n long i (λ s. omega arith)))))
@@ -218,15 +218,15 @@ module _ (l : List ℕ) (e : ℕ) (long : fixed_words ≤ length l) (there : e <
       (λ i h.
       let z : 0 + i ≡ i = omega arith in
       rw z (entry_kept m (c - 1) size i ∙ entry_before l (vlan_word e) (later_words l e ++ replicate 2 0) i (omega arith)))
-      ∙ sym (rw (vlans_in_use_lem l c refl few) (vlans_front c e (c - e) l (omega arith))) in
+      ∙ sym (rw (vlans_in_use_law l c refl few) (vlans_front c e (c - e) l (omega arith))) in
       let back : vlans_from (c - 1 - e) l' (0 + e) ≡ drop (e + 1) (vlans_of l) =
       vlans_from_alike (c - 1 - e) l' l (0 + e) (e + 1)
       (λ i h.
       let z : 0 + e + i ≡ e + i = omega arith in
       rw z (entry_kept m (c - 1) size (e + i) ∙ moved_entry i h))
-      ∙ sym (rw (vlans_in_use_lem l c refl few) (vlans_back c (e + 1) (c - 1 - e) l (omega arith))) in
+      ∙ sym (rw (vlans_in_use_law l c refl few) (vlans_back c (e + 1) (c - 1 - e) l (omega arith))) in
       let both : c - 1 ≡ e + (c - 1 - e) = omega arith in
-      vlans_in_use_lem l' (c - 1) (count_set m (c - 1) size) (omega arith)
+      vlans_in_use_law l' (c - 1) (count_set m (c - 1) size) (omega arith)
       ∙ ap (λ (n : ℕ). vlans_from n l' 0) both
       ∙ vlans_from_split e (c - 1 - e) l' 0
       ∙ rw (front, back)

@@ -22,7 +22,7 @@ use Rattle.machine.specs.State.{State, set_table, age, static, remove}
 use Rattle.machine.specs.SettingCalls.{silently}
 use Rattle.machine.specs.Machine.{lines_of, age_step, carry_out, next}
 use Rattle.layout.specs.Lengths.{addresses_fit}
-use Rattle.layout.proofs.Fits.{addresses_fit_lem}
+use Rattle.layout.proofs.Fits.{addresses_fit_law}
 use Rattle.layout.specs.Answers.{done_with}
 use Rattle.addresses.specs.Search.{look_up, full, damaged}
 use Rattle.addresses.specs.Writes.{aged_by, static_by, removed_by}
@@ -45,9 +45,9 @@ addresses_then : (m : Memories) (s : State) → Stands m s → (addresses : List
     → Stands (record { cells = m.cells; links = m.links; addresses = addresses }) (with_table s t)
 addresses_then m s S addresses t A =
     record {
-      links_fit_lem = S.links_fit_lem;
-      cells_fit_lem = S.cells_fit_lem;
-      cell_count_lem = S.cell_count_lem;
+      links_fit_law = S.links_fit_law;
+      cells_fit_law = S.cells_fit_law;
+      cell_count_law = S.cell_count_law;
       settings = S.settings;
       addresses = A;
       counters = S.counters;
@@ -63,7 +63,7 @@ module _ (m : Memories) (s : State) (S : Stands m s) where
   memory = m.addresses
 
   long : length memory ≡ place_count
-  long = addresses_fit_lem memory S.addresses.fit
+  long = addresses_fit_law memory S.addresses.fit
 
   whole : (k : ℕ) → damaged (look_up memory k) ≡ false
   whole k = undamaged memory k S.addresses.in_range

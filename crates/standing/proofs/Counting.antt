@@ -22,33 +22,33 @@ use Rattle.frame_in.specs.Counting.{counted}
 use Rattle.standing.specs.Stands.{CountersStand}
 use Rattle.standing.proofs.Kept.{SettingWords, words_self, words_then}
 
-reason_number_lem : (r : Reason) → reason_number r ≤ 13
+reason_number_law : (r : Reason) → reason_number r ≤ 13
 unfolding reason_number
-reason_number_lem short = omega arith
-reason_number_lem long = omega arith
-reason_number_lem group_source = omega arith
-reason_number_lem tag_count = omega arith
-reason_number_lem port_blocking = omega arith
-reason_number_lem port_listening = omega arith
-reason_number_lem vid4095 = omega arith
-reason_number_lem no_vlan = omega arith
-reason_number_lem no_member = omega arith
-reason_number_lem port_learning = omega arith
-reason_number_lem no_candidate = omega arith
-reason_number_lem no_port_left = omega arith
-reason_number_lem no_room = omega arith
+reason_number_law short = omega arith
+reason_number_law long = omega arith
+reason_number_law group_source = omega arith
+reason_number_law tag_count = omega arith
+reason_number_law port_blocking = omega arith
+reason_number_law port_listening = omega arith
+reason_number_law vid4095 = omega arith
+reason_number_law no_vlan = omega arith
+reason_number_law no_member = omega arith
+reason_number_law port_learning = omega arith
+reason_number_law no_candidate = omega arith
+reason_number_law no_port_left = omega arith
+reason_number_law no_room = omega arith
 
-counter_number_lem : (c : Counter) → counter_number c ≤ last_counter
+counter_number_law : (c : Counter) → counter_number c ≤ last_counter
 unfolding counter_number
-counter_number_lem offered = omega arith
-counter_number_lem accepted = omega arith
-counter_number_lem not_learned = omega arith
-counter_number_lem queued = omega arith
-counter_number_lem state_out = omega arith
-counter_number_lem queue_out = omega arith
-counter_number_lem sent = omega arith
-counter_number_lem drained = omega arith
-counter_number_lem (reason r) = omega (arith, reason_number_lem r)
+counter_number_law offered = omega arith
+counter_number_law accepted = omega arith
+counter_number_law not_learned = omega arith
+counter_number_law queued = omega arith
+counter_number_law state_out = omega arith
+counter_number_law queue_out = omega arith
+counter_number_law sent = omega arith
+counter_number_law drained = omega arith
+counter_number_law (reason r) = omega (arith, reason_number_law r)
 
 -- an event at one of the five ports
 abbrev pub AtPort : Event → Type 0
@@ -62,7 +62,7 @@ pub bump_stands : (l : List ℕ) (c : Counts) → fixed_words ≤ length l → (
 unfolding bump bumps
 bump_stands l c enough e at h p k hp hk =
     let number = counter_number e.counter in
-    let small = counter_number_lem e.counter in
+    let small = counter_number_law e.counter in
     on (eqb p e.port)
     (λ same. on (eqb k number)
     (λ alike.
@@ -117,7 +117,7 @@ unfolding counted
 counted_keeps [] at l =
     record { words = words_self l; cells = cells_self l; queues = queues_self l }
 counted_keeps (e ∷ es) (also at more) l =
-    let one = bumped_keeps e.port (counter_number e.counter) l at (counter_number_lem e.counter) in
+    let one = bumped_keeps e.port (counter_number e.counter) l at (counter_number_law e.counter) in
     let rest = counted_keeps es more (bumped e.port (counter_number e.counter) l) in
     record {
       words = words_then one.words rest.words;

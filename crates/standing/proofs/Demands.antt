@@ -67,10 +67,10 @@ module _ (n : ℕ) (cells links : List ℕ) (held : ℕ → Waiting) (p q : ℕ)
       (λ e. rw e (ap₂ (◌∷◌) (frame_here c h e) (frames_here ids t)))
       (λ e. rw e (frames_here ids t))
 
-pub queue_frames_lem : (n : ℕ) (m : Memories) (ws : List Waiting) → Traffic n m.cells m.links ws → (p q : ℕ) → p < 5 → q < 4
+pub queue_frames_law : (n : ℕ) (m : Memories) (ws : List Waiting) → Traffic n m.cells m.links ws → (p q : ℕ) → p < 5 → q < 4
     → queue_frames n m p q ≡ queue_at p q ws
 unfolding links_in
-queue_frames_lem n m ws T p q hp hq =
+queue_frames_law n m ws T p q hp hq =
     let L = T.links_stand in
     let list : list_of n m.links p q ≡ sift (λ c. waits_at p q (L.held c)) L.stands.ids = L.stands.lists p q hp hq in
     ap (map (λ (c : ℕ). frame_at n m.cells m.links c q)) list
@@ -134,7 +134,7 @@ module _ (n : ℕ) (m : Memories) (cs : List Call) (S : Stands m (after (fresh n
   in_queues : (p q : ℕ) → p < 5 → q < 4 → put_in p q (events (fresh n) cs) ≡ taken_out p q (events (fresh n) cs) ++ queue_frames n m p q
   in_queues p q hp hq =
       (Machine.holds n cs).queues p q
-      ∙ ap (taken_out p q (events (fresh n) cs) ++◌) (sym (queue_frames_lem n m s.core.waiting traffic p q hp hq))
+      ∙ ap (taken_out p q (events (fresh n) cs) ++◌) (sym (queue_frames_law n m s.core.waiting traffic p q hp hq))
 
   free : free_count m.links ≡ n - cells_in_use s.core.waiting
   unfolding free_cells

@@ -95,9 +95,9 @@ module _ (m : Memories) (s : State) (S : Stands m s) (p q i : ℕ) (hp : p < 5) 
     departing =
         rw counted_left
         (record {
-          links_fit_lem = fit_same m.links after long count S.links_fit_lem;
-          cells_fit_lem = cells_fit_same m.links after long m.cells count S.cells_fit_lem;
-          cell_count_lem = count ∙ S.cell_count_lem;
+          links_fit_law = fit_same m.links after long count S.links_fit_law;
+          cells_fit_law = cells_fit_same m.links after long m.cells count S.cells_fit_law;
+          cell_count_law = count ∙ S.cell_count_law;
           settings = settings_same kept.words s.core.settings (settings_same (same_words gone_settings) s.core.settings S.settings);
           addresses = S.addresses;
           counters = counters;

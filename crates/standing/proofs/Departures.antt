@@ -27,7 +27,7 @@ use Rattle.cells.proofs.Unchanged.{same_ports, same_free, same_frame, same_sound
 use Rattle.layout.proofs.Stores.{others_cells}
 use Rattle.queues.specs.Lists.{list_of, popped, popped_at}
 use Rattle.queues.specs.Queued.{AllQueued}
-use Rattle.queues.proofs.Outcomes.{popped_at_lem, length_popped_at}
+use Rattle.queues.proofs.Outcomes.{popped_at_law, length_popped_at}
 use Rattle.queues.proofs.Apart.{popped_at_others}
 use Rattle.queues.proofs.Lists.{list_same, all_same, all_popped, popped_lists}
 use Rattle.queues.proofs.Answers.{head_oldest}
@@ -54,21 +54,21 @@ word_less : (w x : ℕ) → x ≤ w % 32 → ((w - x) / 32 ≡ w / 32) × ((w - 
 word_less w x h = omega arith
 
 module _ (links : List ℕ) (c v : ℕ) where
-  pub frame_word_lem : (w : ℕ) → (w ≡ frame_word c → ⊥) → get_or (set links (frame_word c) v) w 0 ≡ get_or links w 0
-  frame_word_lem w ne = get_or-set_other links (frame_word c) w v 0 ne
+  pub frame_word_law : (w : ℕ) → (w ≡ frame_word c → ⊥) → get_or (set links (frame_word c) v) w 0 ≡ get_or links w 0
+  frame_word_law w ne = get_or-set_other links (frame_word c) w v 0 ne
 
   word_follow : (n k d : ℕ) → follow n (set links (frame_word c) v) k d ≡ follow n links k d
-  word_follow n = follow_same n links (set links (frame_word c) v) (λ d. frame_word_lem (next_word d) (λ e. omega arith))
+  word_follow n = follow_same n links (set links (frame_word c) v) (λ d. frame_word_law (next_word d) (λ e. omega arith))
 
   word_free : (n : ℕ) → free_cells n (set links (frame_word c) v) ≡ free_cells n links
-  word_free n = rw (frame_word_lem free_count_word (λ e. omega arith), frame_word_lem first_free_word (λ e. omega arith)) (word_follow n (free_count links) (first_free links))
+  word_free n = rw (frame_word_law free_count_word (λ e. omega arith), frame_word_law first_free_word (λ e. omega arith)) (word_follow n (free_count links) (first_free links))
 
   module _ (there : frame_word c < length links) (same : v / 32 ≡ size_of links c) where
     pub word_size_same : (d : ℕ) → size_of (set links (frame_word c) v) d ≡ size_of links d
     word_size_same d =
         elim (ℕ_discrete d c) as (λ _. size_of (set links (frame_word c) v) d ≡ size_of links d) [
           | yes e ↦ rw e (ap (◌/ 32) (get_or-set_same links (frame_word c) v 0 there) ∙ same)
-          | no e ↦ ap (◌/ 32) (frame_word_lem (frame_word d) (λ f. e (omega arith)))
+          | no e ↦ ap (◌/ 32) (frame_word_law (frame_word d) (λ f. e (omega arith)))
         ]
 
     word_frame : (n d : ℕ) → frame_cells n (set links (frame_word c) v) d ≡ frame_cells n links d
@@ -179,7 +179,7 @@ module _ (n : ℕ) (links : List ℕ) (ws : List Waiting) (T : LinkTraffic n lin
       let apart : j ≡ i → ⊥ = λ z. eqb-false i j ne (sym z) in
       on_list left
       (λ e. rw (given e) (given_ports_other n i links j apart))
-      (λ m ms e. rw (kept m ms e) (ap (◌% 32) (frame_word_lem links i (word_of links i - 2 ^ p) (frame_word j) (λ z. apart (omega arith)))))
+      (λ m ms e. rw (kept m ms e) (ap (◌% 32) (frame_word_law links i (word_of links i - 2 ^ p) (frame_word j) (λ z. apart (omega arith)))))
 
   pub D-queues : QueuesSame links D
   D-queues =
@@ -218,7 +218,7 @@ module _ (n : ℕ) (links : List ℕ) (ws : List Waiting) (T : LinkTraffic n lin
 
   -- it is the oldest
   pub after_is : after ≡ popped n p q D
-  after_is = popped_at_lem n p q D i (sym (head_oldest n D p (omega (arith, waits_i.below)) q i tail D-head))
+  after_is = popped_at_law n p q D i (sym (head_oldest n D p (omega (arith, waits_i.below)) q i tail D-head))
 
   pub lists_are : (r s : ℕ) → r < 5 → s < 4 → list_of n after r s ≡ (if eqb p r && eqb q s then tail else list_of n links r s)
   lists_are r s hr hs =

@@ -24,22 +24,22 @@ use Rattle.standing.specs.Stands.{Stands}
 use Rattle.gufhrandi.specs.Runs.{on_links, run}
 use Rattle.standing.specs.Follows.{numbers_of, handed_back, Follows, CallFollows}
 use Rattle.standing.proofs.Answers.{lines_between, follows_by}
-use Rattle.standing.proofs.Drainable.{can_drain_all_lem}
+use Rattle.standing.proofs.Drainable.{can_drain_all_law}
 use Rattle.standing.proofs.PortQueues.{all_in_queues, all_somewhere}
-use Rattle.standing.proofs.Draining.{with_links, queue_stands, queue_copies_lem}
+use Rattle.standing.proofs.Draining.{with_links, queue_stands, queue_copies_law}
 use Rattle.standing.proofs.Emptied.{emptied, all_emptied, emptied_copies, emptied_waiting, emptied_counters}
 
 module _ (p : ℕ) (m : Memories) (s : State) (S : Stands m s) where
   undamaged : p < 5 → not (can_drain_all (cell_count m.links) p m.links) ≡ false
-  undamaged hp = rw (S.cell_count_lem, can_drain_all_lem s.cell_count m.links s.core.waiting S.traffic.links_stand p hp)
+  undamaged hp = rw (S.cell_count_law, can_drain_all_law s.cell_count m.links s.core.waiting S.traffic.links_stand p hp)
 
   -- line 10 holds at no port that is there, and of a port that is not there line 2 speaks before it
-  drain_lines_lem : first (drain_refusals m.links p) ≡ first (drain_lines p)
+  drain_lines_law : first (drain_refusals m.links p) ≡ first (drain_lines p)
   unfolding drain_refusals drain_lines first
-  drain_lines_lem =
+  drain_lines_law =
       on (ltb 4 p)
-      (λ e. rw (S.links_fit_lem, e))
-      (λ e. lines_between (drain_lines p) S.links_fit_lem (undamaged (omega (arith, ltb-false 4 p e))))
+      (λ e. rw (S.links_fit_law, e))
+      (λ e. lines_between (drain_lines p) S.links_fit_law (undamaged (omega (arith, ltb-false 4 p e))))
 
   port_there : first (drain_lines p) ≡ none → p < 5
   unfolding drain_lines
@@ -66,10 +66,10 @@ module _ (p : ℕ) (m : Memories) (s : State) (S : Stands m s) where
     copies_are =
         omega (
           arith,
-          queue_copies_lem p 3 hp (omega arith) m s S,
-          queue_copies_lem p 2 hp (omega arith) _ (emptied p 3 s) three_gone,
-          queue_copies_lem p 1 hp (omega arith) _ (emptied p 2 (emptied p 3 s)) two_gone,
-          queue_copies_lem p 0 hp (omega arith) _ (emptied p 1 (emptied p 2 (emptied p 3 s))) one_gone,
+          queue_copies_law p 3 hp (omega arith) m s S,
+          queue_copies_law p 2 hp (omega arith) _ (emptied p 3 s) three_gone,
+          queue_copies_law p 1 hp (omega arith) _ (emptied p 2 (emptied p 3 s)) two_gone,
+          queue_copies_law p 0 hp (omega arith) _ (emptied p 1 (emptied p 2 (emptied p 3 s))) one_gone,
           emptied_copies p s (all_in_queues s.cell_count m.links s.core.waiting S.traffic.links_stand),
         )
 
@@ -90,9 +90,9 @@ module _ (p : ℕ) (m : Memories) (s : State) (S : Stands m s) where
     unfolding carry_out numbers_of handed_back drain_step
     drains buffer =
         record {
-          same_answer = rw S.cell_count_lem (ap (λ (k : ℕ). done_with k 0) copies_are);
+          same_answer = rw S.cell_count_law (ap (λ (k : ℕ). done_with k 0) copies_are);
           same_bytes = refl;
-          stands_kept = rw S.cell_count_lem drained_stands;
+          stands_kept = rw S.cell_count_law drained_stands;
         }
 
 pub drain_follows : (p : ℕ) → CallFollows (drain p)
@@ -103,5 +103,5 @@ drain_follows p m s S buffer handed =
     (on_links m buffer)
     (λ r. refl)
     (first (drain_refusals m.links p))
-    (drain_lines_lem p m s S)
+    (drain_lines_law p m s S)
     (λ e. drains p m s S (port_there p m s S e) buffer)

@@ -22,7 +22,7 @@ use Rattle.departure.specs.Leaving.{departed, left}
 use Rattle.take_out.specs.Drain.{dropped, drain_one, drain_queue, queue_copies}
 use Rattle.gufhrandi.specs.Memories.{Memories}
 use Rattle.standing.specs.Stands.{Stands}
-use Rattle.standing.proofs.Leaving.{can_leave_lem}
+use Rattle.standing.proofs.Leaving.{can_leave_law}
 use Rattle.standing.proofs.Settled.{some_cells}
 use Rattle.standing.proofs.Departing.{departing}
 use Rattle.standing.proofs.PortQueues.{list_length}
@@ -62,7 +62,7 @@ module _ (p q : ℕ) (hp : p < 5) (hq : q < 4) where
     unfolding drain_one dropped
     one_is =
         rw (head_oldest n m.links p (some_cells m s S) q i tail head)
-        (rw (each_first (rw head at (can_leave_lem n m.links s.core.waiting T p hp q hq))))
+        (rw (each_first (rw head at (can_leave_law n m.links s.core.waiting T p hp q hq))))
 
     one_stands : Stands (with_links m (drain_one n p q m.links)) (one_less p q s)
     one_stands =
@@ -129,6 +129,6 @@ module _ (p q : ℕ) (hp : p < 5) (hq : q < 4) where
     unfolding drain_queue
     queue_stands = all_copies.0
 
-    pub queue_copies_lem : queue_copies s.cell_count p q m.links ≡ length (queue_at p q s.core.waiting)
+    pub queue_copies_law : queue_copies s.cell_count p q m.links ≡ length (queue_at p q s.core.waiting)
     unfolding queue_copies
-    queue_copies_lem = all_copies.1
+    queue_copies_law = all_copies.1

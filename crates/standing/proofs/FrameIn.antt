@@ -23,7 +23,7 @@ use Rattle.machine.specs.FrameIn.{facts_at, frame_in_events, outcome_answer, out
 use Rattle.machine.specs.FrameIn as Machine
 use Rattle.machine.specs.Machine.{lines_of, carry_out, next}
 use Rattle.layout.specs.Lengths.{cell_count, links_fit, cells_fit, addresses_fit}
-use Rattle.layout.proofs.Fits.{links_fit_lem}
+use Rattle.layout.proofs.Fits.{links_fit_law}
 use Rattle.layout.specs.Answers.{length_line, damage_line}
 use Rattle.layout.specs.Same.{SettingsSame}
 use Rattle.addresses.specs.Numbers.{table_of}
@@ -88,9 +88,9 @@ module _ (m : Memories) (s : State) (S : Stands m s) (c : FrameInRequest) (each 
   unfolding frame_in_step Machine.enters
   step_same = ap₂ step_of (sym facts_same) (sym S.addresses.says)
 
-  port_is_lem : facts.port ≡ c.port
+  port_is_law : facts.port ≡ c.port
   unfolding facts_in facts_of
-  port_is_lem = refl
+  port_is_law = refl
 
   module _ (there : c.port ≤ 4) where
     abbrev word : ℕ
@@ -108,7 +108,7 @@ module _ (m : Memories) (s : State) (S : Stands m s) (c : FrameInRequest) (each 
     after = counted happened joined
 
     at_ports : Each AtPort happened
-    at_ports = events_at facts (rw port_is_lem there) unlearned (carries_inside m.links word outcome carries)
+    at_ports = events_at facts (rw port_is_law there) unlearned (carries_inside m.links word outcome carries)
 
     joined_apart : SettingsSame m.links joined
     joined_apart = joined_settings (cell_count m.links) m.links word outcome carries
@@ -128,17 +128,17 @@ module _ (m : Memories) (s : State) (S : Stands m s) (c : FrameInRequest) (each 
         let keeps = counted_keeps happened at_ports joined in
         traffic_same joined after (length_counted happened joined) s.cell_count (stored_for (cell_count m.links) word outcome m.links m.cells) (outcome_waiting outcome s.core.waiting)
         keeps.cells keeps.queues
-        (rw S.cell_count_lem (joined_traffic s.cell_count m.links word m.cells s.core.waiting S.traffic outcome carries))
+        (rw S.cell_count_law (joined_traffic s.cell_count m.links word m.cells s.core.waiting S.traffic outcome carries))
 
     counters_after : CountersStand after (tally happened s.counters)
     counters_after =
-        let fits = links_fit_lem m.links S.links_fit_lem in
+        let fits = links_fit_law m.links S.links_fit_law in
         counted_stands happened at_ports joined s.counters (omega (arith, joined_long, fits.long, fits.fewest))
         (counters_same joined_apart s.counters S.counters)
 
     cells_fit_after : cells_fit (stored_for (cell_count m.links) word outcome m.links m.cells) after ≡ true
     unfolding cells_fit
-    cells_fit_after = rw (cell_count_same words, stored_length (cell_count m.links) word m.cells m.links outcome) S.cells_fit_lem
+    cells_fit_after = rw (cell_count_same words, stored_length (cell_count m.links) word m.cells m.links outcome) S.cells_fit_law
 
     -- ---- the call
 
@@ -150,9 +150,9 @@ module _ (m : Memories) (s : State) (S : Stands m s) (c : FrameInRequest) (each 
           same_answer = same_numbers outcome;
           same_bytes = rw (none_back outcome) refl;
           stands_kept = record {
-            links_fit_lem = fit_same m.links after long (cell_count_same words) S.links_fit_lem;
-            cells_fit_lem = cells_fit_after;
-            cell_count_lem = cell_count_same words ∙ S.cell_count_lem;
+            links_fit_law = fit_same m.links after long (cell_count_same words) S.links_fit_law;
+            cells_fit_law = cells_fit_after;
+            cell_count_law = cell_count_same words ∙ S.cell_count_law;
             settings = settings_same words s.core.settings S.settings;
             addresses = learned_stands m.links m.addresses (meets_in_range m s S) S.addresses.fit c.port there c.packet.bytes each;
             counters = counters_after;
@@ -167,7 +167,7 @@ module _ (m : Memories) (s : State) (S : Stands m s) (c : FrameInRequest) (each 
   unfolding frame_in_lines first
   lines_same =
       let fits : links_fit m.links && (cells_fit m.cells m.links && addresses_fit m.addresses) ≡ true =
-      rw (S.links_fit_lem, S.cells_fit_lem, S.addresses.fit) refl in
+      rw (S.links_fit_law, S.cells_fit_law, S.addresses.fit) refl in
       on (ltb 4 c.port)
       (λ e. rw (fits, e))
       (λ e. lines_between (frame_in_lines c.port) fits

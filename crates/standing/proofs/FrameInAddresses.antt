@@ -11,7 +11,7 @@ use Rattle.rules.specs.Facts.{facts_of}
 use Rattle.rules.specs.Outcomes.{learns, table_after}
 use Rattle.rules.proofs.Choice.{on}
 use Rattle.layout.specs.Lengths.{addresses_fit}
-use Rattle.layout.proofs.Fits.{addresses_fit_lem}
+use Rattle.layout.proofs.Fits.{addresses_fit_law}
 use Rattle.addresses.specs.Numbers.{table_of, all_in_range}
 use Rattle.addresses.specs.Search.{look_up}
 use Rattle.addresses.specs.Writes.{marked_by}
@@ -63,7 +63,7 @@ module _ (links addresses : List ℕ) (good : InRange links addresses) (fit : ad
   small = omega (arith, gid_small, address_below frame 6 each)
 
   long : length addresses ≡ 4112
-  long = addresses_fit_lem addresses fit
+  long = addresses_fit_law addresses fit
 
   learned_long : length (learned_in links addresses port frame) ≡ length addresses
   unfolding learned_in

@@ -28,7 +28,7 @@ use Rattle.frame_in.specs.InRange.{InRange}
 use Rattle.arrival.specs.Stored.{operation_for}
 use Rattle.frame_in.specs.Call.{facts_in}
 use Rattle.frame_in.proofs.Facts.{facts_vlan}
-use Rattle.arrival.proofs.LinkWords.{port_is_lem}
+use Rattle.arrival.proofs.LinkWords.{port_is_law}
 use Rattle.frame_in.proofs.Undamaged.{queue_small}
 use Rattle.standing.proofs.FrameInVlans.{word_says}
 
@@ -88,7 +88,7 @@ module _ (links addresses : List ℕ) (good : InRange links addresses) (p : ℕ)
   unfolding port_of port_in
   default_fits =
       let v = vid_word (get_or links (port_word p) 0) (good.ports p (omega arith)) in
-      rw (port_is_lem links p (omega arith))
+      rw (port_is_law links p (omega arith))
       (record {
         in_range = record { pcp = omega arith; dei = omega arith; vid = omega (arith, v.most) };
         least = omega (arith, v.least);
@@ -103,9 +103,9 @@ module _ (links addresses : List ℕ) (good : InRange links addresses) (p : ℕ)
   unfolding frame_of
   bpdu_operation e = rw e
 
-  vlan_operation_lem : (frame_of facts).exempt ≡ false → (frame_of facts).vlan_operation ≡ operation_of (operation_in word)
+  vlan_operation_law : (frame_of facts).exempt ≡ false → (frame_of facts).vlan_operation ≡ operation_of (operation_in word)
   unfolding frame_of
-  vlan_operation_lem e =
+  vlan_operation_law e =
       rw e (ap (λ (v : Vlan). v.operation) (facts_vlan links addresses bytes p) ∙ (word_says links addresses good facts.vid).says)
 
   pub queued_fitted : reason_for facts ≡ none → Fitted word (frame_of facts)
@@ -122,7 +122,7 @@ module _ (links addresses : List ℕ) (good : InRange links addresses) (p : ℕ)
           default_most = default_fits.most;
           in_range = (word_says links addresses good facts.vid).in_range;
           exempt = bpdu_operation;
-          operated = vlan_operation_lem;
+          operated = vlan_operation_law;
         };
         low = omega (arith, queue_small links addresses good bytes each p there);
       }

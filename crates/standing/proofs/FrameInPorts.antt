@@ -40,15 +40,15 @@ module _ (test : ℕ → Test) where
   unfolding ports_left among
   left_distinct = distinct_sift (λ r. is_passed (test r)) all_ports (refl, (refl, (refl, (refl, (refl, tt)))))
 
-  every_port_lem : sift (λ r. among r all_ports) all_ports ≡ all_ports
+  every_port_law : sift (λ r. among r all_ports) all_ports ≡ all_ports
   unfolding sift among
-  every_port_lem = refl
+  every_port_law = refl
 
   pub left_ascending : ports_left test ≡ sift (λ r. among r (ports_left test)) all_ports
   unfolding ports_left
   left_ascending =
       let passed : ℕ → Bool = λ r. is_passed (test r) in
-      ap (sift passed) (sym every_port_lem)
+      ap (sift passed) (sym every_port_law)
       ∙ sift_sift passed (λ r. among r all_ports) all_ports
       ∙ sift_ext _ _ (λ r. sym (among_sift_is passed r all_ports)) all_ports
 

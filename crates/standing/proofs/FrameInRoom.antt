@@ -51,10 +51,10 @@ module _ (m : Memories) (s : State) (S : Stands m s) where
         switches = good.switches;
         states = good.states;
         ports = good.ports;
-        vlan_count_lem = good.vlan_count_lem;
+        vlan_count_law = good.vlan_count_law;
         vlans = good.vlans;
         vlan_operations = good.vlan_operations;
         places = S.addresses.in_range;
-        cells = rw S.cell_count_lem (λ k e. room_whole s.cell_count m.links L.sound k e);
+        cells = rw S.cell_count_law (λ k e. room_whole s.cell_count m.links L.sound k e);
         queues = L.waiting_words;
       }

@@ -17,7 +17,7 @@ use Rattle.settings.proofs.SettingLaws.{vlan_words_good}
 use Rattle.settings.specs.Records.{vlan_at}
 use Rattle.settings.specs.Table.{vlan_count, entry_at, found_vlan}
 use Rattle.settings.specs.SettingsOf.{vlans_from, vlans_of, settings_of}
-use Rattle.settings.proofs.TableLaws.{vlans_in_use_lem}
+use Rattle.settings.proofs.TableLaws.{vlans_in_use_law}
 use Rattle.settings.proofs.FindLaws.{on_found, found_there, found_nowhere, found_undamaged}
 use Rattle.settings.specs.declared.table.Found.TheVariants.{At, Nowhere}
 use Rattle.frame_in.specs.InRange.{InRange}
@@ -54,15 +54,15 @@ pub vlan_fits : (links addresses : List ℕ) → InRange links addresses → (vi
 unfolding settings_of
 vlan_fits links addresses good vid =
     found_fits (vlans_of links)
-    (rw (vlans_in_use_lem links (vlan_count links) refl good.vlan_count_lem) (entries_fit links (vlan_count links) 0 (λ e h. vlan_words_good (entry_at links e) _ (good.vlans e (omega arith)) (good.vlan_operations e (omega arith)))))
+    (rw (vlans_in_use_law links (vlan_count links) refl good.vlan_count_law) (entries_fit links (vlan_count links) 0 (λ e h. vlan_words_good (entry_at links e) _ (good.vlans e (omega arith)) (good.vlan_operations e (omega arith)))))
     vid
 
 -- ---- the word of its operation
 
-absent_vlan_lem : (vs : List Vlan) (vid : ℕ) → is_there vs vid ≡ false → vlan_of vs vid ≡ absent_vlan
+absent_vlan_law : (vs : List Vlan) (vid : ℕ) → is_there vs vid ≡ false → vlan_of vs vid ≡ absent_vlan
 unfolding is_there vlan_of
-absent_vlan_lem [] vid h = refl
-absent_vlan_lem (v ∷ vs) vid h = on (eqb v.vid vid) (λ e. absurd (true≢false (rw e at h))) (λ e. rw e (absent_vlan_lem vs vid (rw e at h)))
+absent_vlan_law [] vid h = refl
+absent_vlan_law (v ∷ vs) vid h = on (eqb v.vid vid) (λ e. absurd (true≢false (rw e at h))) (λ e. rw e (absent_vlan_law vs vid (rw e at h)))
 
 pub record WordSays (links : List ℕ) (vid : ℕ) : Type 0 where
   pub in_range : is_operation_word (operation_for links vid) ≡ true
@@ -73,7 +73,7 @@ unfolding settings_of operation_found absent_vlan no_operation operation_of oper
 word_none links vid q =
     record {
       in_range = rw q refl;
-      says = rw q (ap (λ (v : Vlan). v.operation) (absent_vlan_lem (vlans_of links) vid (found_nowhere links vid q)));
+      says = rw q (ap (λ (v : Vlan). v.operation) (absent_vlan_law (vlans_of links) vid (found_nowhere links vid q)));
     }
 
 word_there : (links addresses : List ℕ) → InRange links addresses → (vid e : ℕ) → found_vlan links vid ≡ At e → WordSays links vid
@@ -88,6 +88,6 @@ word_there links addresses good vid e q =
 pub word_says : (links addresses : List ℕ) → InRange links addresses → (vid : ℕ) → WordSays links vid
 word_says links addresses good vid =
     on_found (found_vlan links vid)
-    (λ q. absurd (found_undamaged links vid good.vlan_count_lem good.vlans q))
+    (λ q. absurd (found_undamaged links vid good.vlan_count_law good.vlans q))
     (word_none links vid)
     (word_there links addresses good vid)

@@ -40,7 +40,7 @@ use Rattle.standing.proofs.Linked.{stands_in, out_each}
 use Rattle.standing.proofs.Reading.{stands_same}
 use Rattle.standing.proofs.Departures as Departures
 use Rattle.standing.proofs.Arrivals as Arrivals
-use Rattle.standing.proofs.Storing.{frame_read, stored_in_range_lem}
+use Rattle.standing.proofs.Storing.{frame_read, stored_in_range_law}
 
 -- a chain that is the same over the same cells holds the same frame
 holds_same : (n : ℕ) (cells mem links lin : List ℕ) (c : ℕ) (w v : Waiting) → v.frame ≡ w.frame → header_in mem c ≡ header_in cells c
@@ -201,7 +201,7 @@ module _ (n : ℕ) (cells links : List ℕ) (ws : List Waiting) (T : Traffic n c
   new_holds =
       record {
         frame = rw stored_new (rw bytes_new (frame_read operation f S));
-        in_range = rw stored_new (stored_in_range_lem operation f S);
+        in_range = rw stored_new (stored_in_range_law operation f S);
         size = rw stored_new (rw length_new size_new);
       }
 

@@ -25,7 +25,7 @@ use Rattle.addresses.proofs.Ranges.{number_theorems}
 use Rattle.fresh_call.specs.Words.{copies, fresh_next, fresh_cell, fresh_links}
 use Rattle.fresh_call.specs.Calls.{cells_lent, lengths_fit, fresh_refusals, fresh_call}
 use Rattle.fresh_call.proofs.Runs.{fresh_length}
-use Rattle.fresh_call.proofs.WordLaws.{fresh_cell_lem, fresh_counter, fresh_rest}
+use Rattle.fresh_call.proofs.WordLaws.{fresh_cell_law, fresh_counter, fresh_rest}
 use Rattle.standing.proofs.Fresh.{fresh_stands}
 use Rattle.standing.specs.Stands.{CountersStand, Stands}
 use Rattle.gufhrandi.specs.Runs.{on_all}
@@ -34,13 +34,13 @@ use Rattle.standing.proofs.FreshWords.{fresh_count, fresh_free, fresh_first, fre
 -- ---- cells, queues and counters
 
 module _ (n : ℕ) where
-  next_word_lem : (c : ℕ) → c < n → next_in (fresh_links n) c ≡ fresh_next n c
+  next_word_law : (c : ℕ) → c < n → next_in (fresh_links n) c ≡ fresh_next n c
   unfolding fresh_cell
-  next_word_lem c h = let at : next_word c ≡ next_word c + 0 = omega arith in rw at (fresh_cell_lem n c 0 h (omega arith))
+  next_word_law c h = let at : next_word c ≡ next_word c + 0 = omega arith in rw at (fresh_cell_law n c 0 h (omega arith))
 
   ports_word : (c : ℕ) → c < n → ports_of (fresh_links n) c ≡ 0
   unfolding fresh_cell copies
-  ports_word c h = let at : frame_word c ≡ next_word c + 1 = omega arith in rw at (ap (◌% 32) (fresh_cell_lem n c 1 h (omega arith)))
+  ports_word c h = let at : frame_word c ≡ next_word c + 1 = omega arith in rw at (ap (◌% 32) (fresh_cell_law n c 1 h (omega arith)))
 
   all_free : FreshCells n (fresh_links n)
   unfolding fresh_next
@@ -48,8 +48,8 @@ module _ (n : ℕ) where
       record {
         free = fresh_free n;
         first = fresh_first n;
-        goes_on = λ c h. next_word_lem c (omega arith) ∙ rw (lt-ltb (c + 1) n h);
-        ends = λ c h. let last : n ≤ c + 1 = omega arith in next_word_lem c (omega arith) ∙ rw (le-ltb (c + 1) n last);
+        goes_on = λ c h. next_word_law c (omega arith) ∙ rw (lt-ltb (c + 1) n h);
+        ends = λ c h. let last : n ≤ c + 1 = omega arith in next_word_law c (omega arith) ∙ rw (le-ltb (c + 1) n last);
         ports = ports_word;
       }
 
@@ -92,27 +92,27 @@ module _ (cells links addresses : List ℕ) (fit : lengths_fit cells links addre
   cells_long : length cells ≡ cell_bytes n
   cells_long = eqb-true (length cells) (cell_bytes n) (and_right enough cells_are counts_and_cells)
 
-  links_fit_lem : links_fit (fresh_links n) ≡ true
+  links_fit_law : links_fit (fresh_links n) ≡ true
   unfolding links_fit
-  links_fit_lem = rw (fresh_count n, fresh_length [] n, is_count) (eq-eqb (link_words n) (link_words n) refl)
+  links_fit_law = rw (fresh_count n, fresh_length [] n, is_count) (eq-eqb (link_words n) (link_words n) refl)
 
-  cells_fit_lem : cells_fit cells (fresh_links n) ≡ true
+  cells_fit_law : cells_fit cells (fresh_links n) ≡ true
   unfolding cells_fit
-  cells_fit_lem = rw (fresh_count n) (eq-eqb (length cells) (cell_bytes n) cells_long)
+  cells_fit_law = rw (fresh_count n) (eq-eqb (length cells) (cell_bytes n) cells_long)
 
-  addresses_fit_lem : addresses_fit (replicate place_count 0) ≡ true
+  addresses_fit_law : addresses_fit (replicate place_count 0) ≡ true
   unfolding addresses_fit
-  addresses_fit_lem = eq-eqb (length {A = ℕ} (replicate place_count 0)) place_count (length-replicate {A = ℕ} place_count 0)
+  addresses_fit_law = eq-eqb (length {A = ℕ} (replicate place_count 0)) place_count (length-replicate {A = ℕ} place_count 0)
 
   fresh_memories_stand : Stands (record { cells = cells; links = fresh_links n; addresses = replicate place_count 0 }) (fresh n)
   unfolding fresh
   fresh_memories_stand =
       record {
-        links_fit_lem = links_fit_lem;
-        cells_fit_lem = cells_fit_lem;
-        cell_count_lem = fresh_count n;
+        links_fit_law = links_fit_law;
+        cells_fit_law = cells_fit_law;
+        cell_count_law = fresh_count n;
         settings = record { says = fresh_says n; in_range = fresh_in_range n; once = one_vlan };
-        addresses = record { fit = addresses_fit_lem; says = number_theorems.table_fresh place_count; in_range = number_theorems.fresh_in_range place_count };
+        addresses = record { fit = addresses_fit_law; says = number_theorems.table_fresh place_count; in_range = number_theorems.fresh_in_range place_count };
         counters = counters_zero n;
         traffic =
             fresh_stands n (fresh_links n) some (omega (arith, fresh_length [] n)) (all_free n) (waiting_zero n) cells (omega (arith, cells_long));

@@ -22,12 +22,12 @@ use Rattle.settings.specs.Fresh.{fresh_map, fresh_switches, fresh_states}
 use Rattle.settings.proofs.RangeLaws.{port_range, vlan_range}
 use Rattle.settings.proofs.OperationLaws.{range_good}
 use Rattle.settings.proofs.PortLaws.{port_word_good, vlan_word_good}
-use Rattle.settings.proofs.FreshLaws.{fresh_map_lem, fresh_switches_lem, fresh_switches_good, fresh_states_lem}
+use Rattle.settings.proofs.FreshLaws.{fresh_map_law, fresh_switches_law, fresh_switches_good, fresh_states_law}
 use Rattle.settings.specs.Records.{states_at, port_at, vlan_at}
 use Rattle.settings.specs.Table.{vlan_count, entry_at}
 use Rattle.settings.specs.SettingsOf.{fresh_operation, fresh_port, fresh_vlan, ports_of, queues_of, switch_of, switches_of, map_at, switches_at, vlans_from, vlans_of, settings_of}
 use Rattle.fresh_call.specs.Words.{copies, fresh_front, fresh_switch, fresh_vlans, fresh_links}
-use Rattle.fresh_call.proofs.WordLaws.{fresh_table, fresh_own, fresh_operation_lem}
+use Rattle.fresh_call.proofs.WordLaws.{fresh_table, fresh_own, fresh_operation_law}
 use Rattle.standing.specs.Stands.{SettingsInRange}
 
 -- ---- the numbers of ports and PCPs, one by one
@@ -72,9 +72,9 @@ module _ (n : ℕ) where
   fresh_vlan_count = refl
 
   -- VLAN entry 0
-  entry_is_lem : entry_at (fresh_links n) 0 ≡ Packed.vlan_word fresh_vlan
+  entry_is_law : entry_at (fresh_links n) 0 ≡ Packed.vlan_word fresh_vlan
   unfolding fresh_vlans
-  entry_is_lem = fresh_table n 0 (omega arith)
+  entry_is_law = fresh_table n 0 (omega arith)
 
   entry_operation_is : get_or (fresh_links n) (vlan_operation_word 0) 0 ≡ operation_word fresh_vlan.operation
   unfolding fresh_vlans
@@ -82,11 +82,11 @@ module _ (n : ℕ) where
 
   fresh_port_at : (p : ℕ) → p < 5 → port_at (fresh_links n) p ≡ fresh_port
   unfolding port_in operation_in fresh_port fresh_operation
-  fresh_port_at p h = rw (states_are, fresh_own n p h, fresh_operation_lem n p h, fresh_states_lem.1 p h)
+  fresh_port_at p h = rw (states_are, fresh_own n p h, fresh_operation_law n p h, fresh_states_law.1 p h)
 
   fresh_vlan_at : vlan_at (fresh_links n) 0 ≡ fresh_vlan
   unfolding vlan_in operation_in fresh_vlan fresh_operation
-  fresh_vlan_at = rw (entry_is_lem, entry_operation_is)
+  fresh_vlan_at = rw (entry_is_law, entry_operation_is)
 
 -- ---- masks
 
@@ -142,7 +142,7 @@ module _ (n : ℕ) where
       rw (map_is n)
       (fun_ext
       (λ pcp. elim (dec_lt pcp 8) as (λ _. queues_of fresh_map pcp ≡ pcp / 2) [
-        | yes h ↦ rw (lt-ltb pcp 8 h) (fresh_map_lem.2 pcp h)
+        | yes h ↦ rw (lt-ltb pcp 8 h) (fresh_map_law.2 pcp h)
         | no h ↦ let past : 8 ≤ pcp = omega arith in rw (le-ltb pcp 8 past)
       ]))
 
@@ -155,14 +155,14 @@ module _ (n : ℕ) where
         | yes h ↦ rw (lt-ltb p 5 h)
             (fun_ext
             (λ q. elim (dec_lt q 4) as (λ _. switch_of fresh_switches p q ≡ true) [
-              | yes k ↦ rw (lt-ltb q 4 k) (fresh_switches_lem p q h k)
+              | yes k ↦ rw (lt-ltb q 4 k) (fresh_switches_law p q h k)
               | no k ↦ let past : 4 ≤ q = omega arith in rw (le-ltb q 4 past)
             ]))
         | no h ↦ let past : 5 ≤ p = omega arith in rw (le-ltb p 5 past)
       ]))
 
   bpdu_says : bpdu_in (map_at (fresh_links n)) ≡ true
-  bpdu_says = ap bpdu_in (map_is n) ∙ fresh_map_lem.1
+  bpdu_says = ap bpdu_in (map_is n) ∙ fresh_map_law.1
 
   vlans_say : vlans_of (fresh_links n) ≡ Machine.fresh_vlan ∷ []
   unfolding vlans_of vlans_from
@@ -183,13 +183,13 @@ module _ (n : ℕ) where
   pub fresh_in_range : SettingsInRange (fresh_links n)
   fresh_in_range =
       record {
-        map = rw (map_is n) fresh_map_lem.0;
+        map = rw (map_is n) fresh_map_law.0;
         switches = rw (switches_are n) fresh_switches_good;
-        states = rw (states_are n) fresh_states_lem.0;
+        states = rw (states_are n) fresh_states_law.0;
         ports = λ p h. rw (fresh_own n p h) (port_word_good fresh_port port_good);
-        operations = λ p h. rw (fresh_operation_lem n p h) (range_good fresh_port.operation (port_range fresh_port port_good).operation);
-        vlan_count_lem = omega (arith, fresh_vlan_count n);
-        vlans = λ e h. let only : e ≡ 0 = omega (arith, fresh_vlan_count n) in rw only (rw (entry_is_lem n) (vlan_word_good fresh_vlan vlan_good));
+        operations = λ p h. rw (fresh_operation_law n p h) (range_good fresh_port.operation (port_range fresh_port port_good).operation);
+        vlan_count_law = omega (arith, fresh_vlan_count n);
+        vlans = λ e h. let only : e ≡ 0 = omega (arith, fresh_vlan_count n) in rw only (rw (entry_is_law n) (vlan_word_good fresh_vlan vlan_good));
         vlan_operations = λ e h.
             let only : e ≡ 0 = omega (arith, fresh_vlan_count n) in
             rw only (rw (entry_operation_is n) (range_good fresh_vlan.operation (vlan_range fresh_vlan vlan_good).operation));

@@ -100,13 +100,13 @@ module _ {l m : List ℕ} (same : SettingWords l m) where
         states = rw (same.word states_word (omega arith) (λ e. omega arith) (λ e. omega arith)) h.states;
         ports = λ p hp. rw (same.own p hp) (h.ports p hp);
         operations = λ p hp. rw (same.operation p hp) (h.operations p hp);
-        vlan_count_lem = rw count h.vlan_count_lem;
+        vlan_count_law = rw count h.vlan_count_law;
         vlans = λ e he.
             let used : e < vlan_count l = omega (arith, count) in
-            rw (same.word (vlan_word e) (omega (arith, h.vlan_count_lem)) (λ z. omega arith) (λ z. omega arith)) (h.vlans e used);
+            rw (same.word (vlan_word e) (omega (arith, h.vlan_count_law)) (λ z. omega arith) (λ z. omega arith)) (h.vlans e used);
         vlan_operations = λ e he.
             let used : e < vlan_count l = omega (arith, count) in
-            rw (same.word (vlan_operation_word e) (omega (arith, h.vlan_count_lem)) (λ z. omega arith) (λ z. omega arith)) (h.vlan_operations e used);
+            rw (same.word (vlan_operation_word e) (omega (arith, h.vlan_count_law)) (λ z. omega arith) (λ z. omega arith)) (h.vlan_operations e used);
       }
 
   pub settings_same : (s : Settings) → SettingsStand l s → SettingsStand m s

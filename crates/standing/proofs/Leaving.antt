@@ -79,16 +79,16 @@ module _ (n : ℕ) (links : List ℕ) (ws : List Waiting) (T : LinkTraffic n lin
   leaves_one c W R h =
       let waits : 1 ≤ ports_of links c = rw W.said W.somewhere in
       let sized : size_of links c ≡ size (T.held c).frame = sym (length_follow n links (size_of links c) c) ∙ R.sized in
-      let is_frame_lem : is_frame c links ≡ true =
+      let is_frame_law : is_frame c links ≡ true =
       frame_is n links T.sound c (omega (arith, sized)) (omega (arith, sized, W.few)) in
-      rw (lt-ltb c n W.below, is_frame_lem, ap (λ (m : ℕ). bit m p) W.said ∙ ascending_bit p (T.held c).ports hp W.ascending h)
+      rw (lt-ltb c n W.below, is_frame_law, ap (λ (m : ℕ). bit m p) W.said ∙ ascending_bit p (T.held c).ports hp W.ascending h)
       (on (is_last p c links) (λ e. rw (e, give_back_can n links T.sound c W.below waits)) (λ e. rw e))
 
   module _ (q : ℕ) (hq : q < 4) where
     -- each member of queue (p, q)
-    pub can_leave_lem : Each (λ (c : ℕ). can_leave n p c links ≡ true) (list_of n links p q)
+    pub can_leave_law : Each (λ (c : ℕ). can_leave n p c links ≡ true) (list_of n links p q)
     unfolding links_in waits_at
-    can_leave_lem =
+    can_leave_law =
         rw (T.stands.lists p q hp hq)
         (each_map
         (λ c k. leaves_one c k.0.0 k.0.1 (and_left (among p (T.held c).ports) (eqb q (T.held c).frame.queue) k.1))

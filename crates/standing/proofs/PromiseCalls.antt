@@ -67,19 +67,19 @@ unfolding refusal_number fresh_refusals fresh_call drain_refusals drain_call dra
 refusal_theorems =
     record {
       fresh = λ cells links addresses. refuses (fresh_refusals cells links addresses) (cells, links, addresses) _ refl tt;
-      frame_in_lem = frame_in_refuses;
+      frame_in_law = frame_in_refuses;
       take_into = take_refuses;
       take = take_hands_back;
       age = λ addresses. refuses (age_refusals addresses) addresses _ refl (omega arith, tt);
       counter = λ links port number. refuses (counter_refusals links port number) links _ refl (omega arith, (omega arith, tt));
       port = λ links port new. refuses (port_refusals links port new) links _ refl (omega arith, (omega arith, (omega arith, tt)));
       vlan = λ links new. refuses (vlan_refusals links new) links _ refl (omega arith, (omega arith, (omega arith, tt)));
-      clear_vlan_lem = λ links vid. refuses (clear_vlan_refusals links vid) links _ refl (omega arith, (omega arith, (omega arith, tt)));
+      clear_vlan_law = λ links vid. refuses (clear_vlan_refusals links vid) links _ refl (omega arith, (omega arith, (omega arith, tt)));
       static = λ addresses gid port address.
           refuses (static_refusals addresses gid port address) addresses _ refl (omega arith, (omega arith, (omega arith, (omega arith, (omega arith, tt)))));
       remove = λ addresses gid address. refuses (remove_refusals addresses gid address) addresses _ refl (omega arith, (omega arith, (omega arith, tt)));
       queue_map = λ links pcp queue. refuses (map_refusals links pcp queue) links _ refl (omega arith, (omega arith, tt));
-      queue_switch_lem = λ links port queue on. refuses (queue_switch_refusals links port queue on) links _ refl (omega arith, (omega arith, (omega arith, tt)));
+      queue_switch_law = λ links port queue on. refuses (queue_switch_refusals links port queue on) links _ refl (omega arith, (omega arith, (omega arith, tt)));
       drain = λ links port. refuses (drain_refusals links port) links _ refl (omega arith, (omega arith, tt));
       bpdu = λ links on. refuses (bpdu_refusals links on) links _ refl (omega arith, (omega arith, tt));
     }

@@ -50,7 +50,7 @@ module _ {M : Type 0} (m : Memories) (c : Call) (buffer : List ℕ) (lines : Lin
 pub refused_exactly : (m : Memories) (c : Call) (buffer : List ℕ) → RefusedExactly m c buffer
 unfolding run lines_on fits_for take_refusals drain_refusals age_refusals static_refusals remove_refusals counter_refusals port_refusals map_refusals queue_switch_refusals bpdu_refusals vlan_refusals clear_vlan_refusals
 refused_exactly m (frame_in c) buffer =
-    by_promise m (frame_in c) buffer _ (m.cells, m.links, m.addresses) _ (on_all buffer) (refusal_theorems.frame_in_lem m.cells m.links m.addresses c.port c.packet.bytes) refl refl (λ x. refl) (λ r. refl) _ refl
+    by_promise m (frame_in c) buffer _ (m.cells, m.links, m.addresses) _ (on_all buffer) (refusal_theorems.frame_in_law m.cells m.links m.addresses c.port c.packet.bytes) refl refl (λ x. refl) (λ r. refl) _ refl
 refused_exactly m (take c) buffer =
     by_promise m (take c) buffer _ (m.links, buffer) _ (on_buffer m) (refusal_theorems.take_into m.cells m.links c.port buffer) refl refl (λ x. refl) (λ r. refl) _ refl
 refused_exactly m age buffer =
@@ -62,7 +62,7 @@ refused_exactly m (port c) buffer =
 refused_exactly m (vlan n) buffer =
     by_promise m (vlan n) buffer _ m.links _ (on_links m buffer) (refusal_theorems.vlan m.links n) refl refl (λ x. refl) (λ r. refl) _ refl
 refused_exactly m (clear_vlan vid) buffer =
-    by_promise m (clear_vlan vid) buffer _ m.links _ (on_links m buffer) (refusal_theorems.clear_vlan_lem m.links vid) refl refl (λ x. refl) (λ r. refl) _ refl
+    by_promise m (clear_vlan vid) buffer _ m.links _ (on_links m buffer) (refusal_theorems.clear_vlan_law m.links vid) refl refl (λ x. refl) (λ r. refl) _ refl
 refused_exactly m (static c) buffer =
     by_promise m (static c) buffer _ m.addresses _ (on_addresses m buffer) (refusal_theorems.static m.addresses c.gid c.port c.address) refl refl (λ x. refl) (λ r. refl) _ refl
 refused_exactly m (remove c) buffer =
@@ -70,7 +70,7 @@ refused_exactly m (remove c) buffer =
 refused_exactly m (map c) buffer =
     by_promise m (map c) buffer _ m.links _ (on_links m buffer) (refusal_theorems.queue_map m.links c.pcp c.queue) refl refl (λ x. refl) (λ r. refl) _ refl
 refused_exactly m (queue_switch c) buffer =
-    by_promise m (queue_switch c) buffer _ m.links _ (on_links m buffer) (refusal_theorems.queue_switch_lem m.links c.port c.queue c.on) refl refl (λ x. refl) (λ r. refl) _ refl
+    by_promise m (queue_switch c) buffer _ m.links _ (on_links m buffer) (refusal_theorems.queue_switch_law m.links c.port c.queue c.on) refl refl (λ x. refl) (λ r. refl) _ refl
 refused_exactly m (drain p) buffer =
     by_promise m (drain p) buffer _ m.links _ (on_links m buffer) (refusal_theorems.drain m.links p) refl refl (λ x. refl) (λ r. refl) _ refl
 refused_exactly m (bpdu on) buffer =

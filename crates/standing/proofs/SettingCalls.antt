@@ -21,14 +21,14 @@ use Rattle.machine.specs.Machine.{lines_of, carry_out, next}
 use Rattle.layout.specs.Places.{map_word, switches_word}
 use Rattle.layout.specs.Answers.{done_with}
 use Rattle.settings.specs.Records.{port_written}
-use Rattle.settings.proofs.SettingsLaws.{port_written_lem, queue_written_lem, switch_written_lem, bpdu_written_lem}
+use Rattle.settings.proofs.SettingsLaws.{port_written_law, queue_written_law, switch_written_law, bpdu_written_law}
 use Rattle.settings.proofs.CounterLaws.{counter_at}
 use Rattle.setting_calls.specs.Calls.{counter_refusals, counter_call, port_refusals, port_call, queue_written, map_refusals, map_call, switch_written, queue_switch_refusals, queue_switch_call, bpdu_written, bpdu_refusals, bpdu_call}
 use Rattle.gufhrandi.specs.Runs.{on_links, run}
 use Rattle.standing.specs.Follows.{numbers_of, handed_back, CallFollows}
 use Rattle.standing.proofs.Answers.{lines_alone, lines_between, follows_by}
 use Rattle.standing.proofs.Settled.{links_long, set_before, set_port, setting_follows}
-use Rattle.standing.proofs.SettingRanges.{port_in_range_lem, map_in_range, switch_in_range, bpdu_in_range}
+use Rattle.standing.proofs.SettingRanges.{port_in_range_law, map_in_range, switch_in_range, bpdu_in_range}
 
 -- ---- counter
 
@@ -44,7 +44,7 @@ counter_follows c m s S buffer handed =
     let p = c.port in
     let k = c.number in
     follows_by m s S (counter c) buffer m.links (done_with (counter_at m.links p k) 0, m.links) (on_links m buffer) (λ r. refl)
-    (first (counter_refusals m.links p k)) (lines_alone (counter_lines c) S.links_fit_lem)
+    (first (counter_refusals m.links p k)) (lines_alone (counter_lines c) S.links_fit_law)
     (λ e.
     let allowed = counter_allowed c e in
     record { same_answer = ap (λ (x : ℕ). done_with x 0) (S.counters p k allowed.0 allowed.1); same_bytes = refl; stands_kept = S })
@@ -68,14 +68,14 @@ port_follows c m s S buffer handed =
     let n = c.new in
     let links = port_written m.links p n in
     let long = links_long m s S in
-    setting_follows m s S (port c) buffer (first (port_refusals m.links p n)) (lines_between (port_lines c) S.links_fit_lem (sound S.settings.in_range.states)) links
+    setting_follows m s S (port c) buffer (first (port_refusals m.links p n)) (lines_between (port_lines c) S.links_fit_law (sound S.settings.in_range.states)) links
     (with_port p (port_of n) s.core.settings) refl
     (λ e.
     let allowed = port_allowed c e in (
       set_port m.links p n allowed.0,
       record {
-        says = port_written_lem m.links p n long allowed.0 allowed.1 ∙ ap (with_port p (port_of n)) S.settings.says;
-        in_range = port_in_range_lem m.links long S.settings.in_range p n allowed.0 allowed.1;
+        says = port_written_law m.links p n long allowed.0 allowed.1 ∙ ap (with_port p (port_of n)) S.settings.says;
+        in_range = port_in_range_law m.links long S.settings.in_range p n allowed.0 allowed.1;
         once = S.settings.once;
       },
     ))
@@ -97,13 +97,13 @@ map_follows c m s S buffer handed =
     let q = c.queue in
     let links = queue_written m.links pcp q in
     let long = links_long m s S in
-    setting_follows m s S (map c) buffer (first (map_refusals m.links pcp q)) (lines_between (map_lines c) S.links_fit_lem (sound S.settings.in_range.map)) links
+    setting_follows m s S (map c) buffer (first (map_refusals m.links pcp q)) (lines_between (map_lines c) S.links_fit_law (sound S.settings.in_range.map)) links
     (with_queue pcp q s.core.settings) refl
     (λ e.
     let allowed = map_allowed c e in (
       set_before m.links map_word (_ ∷ []) (omega arith) (omega arith),
       record {
-        says = queue_written_lem m.links pcp q long allowed.0 allowed.1 ∙ ap (with_queue pcp q) S.settings.says;
+        says = queue_written_law m.links pcp q long allowed.0 allowed.1 ∙ ap (with_queue pcp q) S.settings.says;
         in_range = map_in_range m.links long S.settings.in_range pcp q allowed.0;
         once = S.settings.once;
       },
@@ -132,13 +132,13 @@ queue_switch_follows c m s S buffer handed =
     let on = c.on in
     let links = switch_written m.links p q on in
     let long = links_long m s S in
-    setting_follows m s S (queue_switch c) buffer (first (queue_switch_refusals m.links p q on)) (lines_between (queue_switch_lines c) S.links_fit_lem (sound S.settings.in_range.switches)) links
+    setting_follows m s S (queue_switch c) buffer (first (queue_switch_refusals m.links p q on)) (lines_between (queue_switch_lines c) S.links_fit_law (sound S.settings.in_range.switches)) links
     (with_switch p q (flag on) s.core.settings) refl
     (λ e.
     let allowed = queue_switch_allowed c e in (
       set_before m.links switches_word (_ ∷ []) (omega arith) (omega arith),
       record {
-        says = switch_written_lem m.links p q (flag on) long allowed.0 allowed.1 ∙ ap (with_switch p q (flag on)) S.settings.says;
+        says = switch_written_law m.links p q (flag on) long allowed.0 allowed.1 ∙ ap (with_switch p q (flag on)) S.settings.says;
         in_range = switch_in_range m.links long S.settings.in_range p q (flag on) allowed.0 allowed.1;
         once = S.settings.once;
       },
@@ -151,12 +151,12 @@ unfolding run bpdu_call bpdu_refusals bpdu_written lines_of carry_out with_bpdu
 bpdu_follows on m s S buffer handed =
     let links = bpdu_written m.links on in
     let long = links_long m s S in
-    setting_follows m s S (bpdu on) buffer (first (bpdu_refusals m.links on)) (lines_between (bpdu_lines on) S.links_fit_lem (sound S.settings.in_range.map)) links
+    setting_follows m s S (bpdu on) buffer (first (bpdu_refusals m.links on)) (lines_between (bpdu_lines on) S.links_fit_law (sound S.settings.in_range.map)) links
     (with_bpdu (flag on) s.core.settings) refl
     (λ e. (
       set_before m.links map_word (_ ∷ []) (omega arith) (omega arith),
       record {
-        says = bpdu_written_lem m.links (flag on) long ∙ ap (with_bpdu (flag on)) S.settings.says;
+        says = bpdu_written_law m.links (flag on) long ∙ ap (with_bpdu (flag on)) S.settings.says;
         in_range = bpdu_in_range m.links long S.settings.in_range (flag on);
         once = S.settings.once;
       },

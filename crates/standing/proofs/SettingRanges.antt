@@ -29,8 +29,8 @@ use Rattle.standing.specs.Stands.{SettingsInRange}
 module _ (l : List ℕ) (long : fixed_words ≤ length l) (range : SettingsInRange l) where
   -- ---- a port
 
-  pub port_in_range_lem : (p : ℕ) (n : PortNumbers) → p < 5 → port_in_range n ≡ true → SettingsInRange (port_written l p n)
-  port_in_range_lem p n hp good =
+  pub port_in_range_law : (p : ℕ) (n : PortNumbers) → p < 5 → port_in_range n ≡ true → SettingsInRange (port_written l p n)
+  port_in_range_law p n hp good =
       let r = port_range n good in
       let count = port_keeps l p n vlan_count_word (λ e. omega arith) (λ e. omega arith) (λ e. omega arith) in
       record {
@@ -46,14 +46,14 @@ module _ (l : List ℕ) (long : fixed_words ≤ length l) (range : SettingsInRan
             (λ other.
             rw (port_keeps l p n (port_operation_word j) (λ e. omega arith) (λ e. omega arith) (λ e. eqb-false j p other (omega arith)))
             (range.operations j hj));
-        vlan_count_lem = rw count range.vlan_count_lem;
+        vlan_count_law = rw count range.vlan_count_law;
         vlans = λ e he.
             let used : e < vlan_count l = omega (arith, count) in
-            let few : e < 16 = omega (arith, used, range.vlan_count_lem) in
+            let few : e < 16 = omega (arith, used, range.vlan_count_law) in
             rw (port_keeps l p n (vlan_word e) (λ z. omega arith) (λ z. omega arith) (λ z. omega arith)) (range.vlans e used);
         vlan_operations = λ e he.
             let used : e < vlan_count l = omega (arith, count) in
-            let few : e < 16 = omega (arith, used, range.vlan_count_lem) in
+            let few : e < 16 = omega (arith, used, range.vlan_count_law) in
             rw (port_keeps l p n (vlan_operation_word e) (λ z. omega arith) (λ z. omega arith) (λ z. omega arith)) (range.vlan_operations e used);
       }
 
@@ -71,7 +71,7 @@ module _ (l : List ℕ) (long : fixed_words ≤ length l) (range : SettingsInRan
         states = states;
         ports = λ p h. rw (get_or-set_other l at (port_word p) v 0 (λ e. omega arith)) (range.ports p h);
         operations = λ p h. rw (get_or-set_other l at (port_operation_word p) v 0 (λ e. omega arith)) (range.operations p h);
-        vlan_count_lem = rw count range.vlan_count_lem;
+        vlan_count_law = rw count range.vlan_count_law;
         vlans = λ e he.
             let used : e < vlan_count l = omega (arith, count) in
             rw (get_or-set_other l at (vlan_word e) v 0 (λ z. omega arith)) (range.vlans e used);

@@ -20,7 +20,7 @@ use Rattle.layout.specs.Same.{CellsSame, QueuesSame}
 use Rattle.layout.proofs.Stores.{cells_then, queues_then}
 use Rattle.layout.specs.Lengths.{cell_count}
 use Rattle.layout.specs.Answers.{done_with, or_refused}
-use Rattle.layout.proofs.Fits.{links_fit_lem}
+use Rattle.layout.proofs.Fits.{links_fit_law}
 use Rattle.settings.specs.Records.{port_written}
 use Rattle.settings.proofs.RecordLaws.{port_length, port_keeps}
 use Rattle.settings.proofs.CounterLaws.{counter_at, setting_keeps_counters, port_keeps_counters}
@@ -34,15 +34,15 @@ use Rattle.standing.proofs.Kept.{fit_same, cells_fit_same, traffic_same}
 
 -- the words of the settings and of the counters are there
 pub links_long : (m : Memories) (s : State) → Stands m s → fixed_words ≤ length m.links
-links_long m s S = omega (arith, (links_fit_lem m.links S.links_fit_lem).long)
+links_long m s S = omega (arith, (links_fit_law m.links S.links_fit_law).long)
 
 pub some_cells : (m : Memories) (s : State) → Stands m s → 1 ≤ s.cell_count
-some_cells m s S = omega (arith, (links_fit_lem m.links S.links_fit_lem).fewest, S.cell_count_lem)
+some_cells m s S = omega (arith, (links_fit_law m.links S.links_fit_law).fewest, S.cell_count_law)
 
 -- what a write of settings leaves alone
 pub record OnlySet (l m : List ℕ) : Type 0 where
   pub long : length m ≡ length l
-  pub cell_count_lem : cell_count m ≡ cell_count l
+  pub cell_count_law : cell_count m ≡ cell_count l
   pub counters : (p k : ℕ) → k < 32 → counter_at m p k ≡ counter_at l p k
   pub cells : CellsSame l m
   pub queues : QueuesSame l m
@@ -53,7 +53,7 @@ module _ (l : List ℕ) (at : ℕ) (ws : List ℕ) where
   set_before first last =
       record {
         long = length-sets l at ws;
-        cell_count_lem = get_d_sets_before l at ws 0 0 first;
+        cell_count_law = get_d_sets_before l at ws 0 0 first;
         counters = λ p k hk. setting_keeps_counters l at ws (omega arith) p k;
         cells = cells_kept_after l at ws last;
         queues = queues_kept l at ws (omega arith);
@@ -63,7 +63,7 @@ module _ (l : List ℕ) (at : ℕ) (ws : List ℕ) where
   set_behind first last =
       record {
         long = length-sets l at ws;
-        cell_count_lem = get_d_sets_before l at ws 0 0 (omega arith);
+        cell_count_law = get_d_sets_before l at ws 0 0 (omega arith);
         counters = λ p k hk. setting_keeps_counters l at ws last p k;
         cells = cells_kept_before l at ws first (omega arith);
         queues = queues_kept l at ws last;
@@ -74,7 +74,7 @@ pub set_port : (l : List ℕ) (p : ℕ) (n : PortNumbers) → p < 5 → OnlySet 
 set_port l p n h =
     record {
       long = port_length l p n;
-      cell_count_lem = port_keeps l p n 0 (λ e. omega arith) (λ e. omega arith) (λ e. omega arith);
+      cell_count_law = port_keeps l p n 0 (λ e. omega arith) (λ e. omega arith) (λ e. omega arith);
       counters = λ q k hk. port_keeps_counters l p n q k hk;
       cells = port_keeps_cells l p n h;
       queues = port_keeps_queues l p n h;
@@ -84,7 +84,7 @@ pub set_then : {l m n : List ℕ} → OnlySet l m → OnlySet m n → OnlySet l 
 set_then a b =
     record {
       long = b.long ∙ a.long;
-      cell_count_lem = b.cell_count_lem ∙ a.cell_count_lem;
+      cell_count_law = b.cell_count_law ∙ a.cell_count_law;
       counters = λ p k h. b.counters p k h ∙ a.counters p k h;
       cells = cells_then a.cells b.cells;
       queues = queues_then a.queues b.queues;
@@ -99,9 +99,9 @@ settled m s S buffer links new only stands =
       same_answer = refl;
       same_bytes = refl;
       stands_kept = record {
-        links_fit_lem = fit_same m.links links only.long only.cell_count_lem S.links_fit_lem;
-        cells_fit_lem = cells_fit_same m.links links only.long m.cells only.cell_count_lem S.cells_fit_lem;
-        cell_count_lem = only.cell_count_lem ∙ S.cell_count_lem;
+        links_fit_law = fit_same m.links links only.long only.cell_count_law S.links_fit_law;
+        cells_fit_law = cells_fit_same m.links links only.long m.cells only.cell_count_law S.cells_fit_law;
+        cell_count_law = only.cell_count_law ∙ S.cell_count_law;
         settings = stands;
         addresses = S.addresses;
         counters = λ p k hp hk. only.counters p k (omega arith) ∙ S.counters p k hp hk;

@@ -59,9 +59,9 @@ module _ (operation : ℕ) (f : Frame) (S : Storable operation f) where
   operation_stored : is_stored_word (if f.exempt then operation_end else operation) ≡ true
   operation_stored = on f.exempt (λ e. rw e) (λ e. rw e (good_stored operation S.in_range).0)
 
-  pub stored_in_range_lem : stored_in_range (stored_header operation f) ≡ true
+  pub stored_in_range_law : stored_in_range (stored_header operation f) ≡ true
   unfolding stored_in_range stored_header
-  stored_in_range_lem =
+  stored_in_range_law =
       rw (
         le-leb shortest (length f.packet.bytes) S.short,
         le-leb (length f.packet.bytes) longest S.long,

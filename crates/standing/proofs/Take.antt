@@ -32,7 +32,7 @@ use Rattle.standing.proofs.Answers.{lines_between, follows_by}
 use Rattle.standing.proofs.Departing.{departing}
 use Rattle.standing.proofs.Settled.{some_cells}
 use Rattle.standing.proofs.Serving.{on_served}
-use Rattle.standing.proofs.Sending.{can_send_lem}
+use Rattle.standing.proofs.Sending.{can_send_law}
 
 take_port : (c : TakeRequest) → first (take_lines c) ≡ none → c.port < 5
 unfolding take_lines
@@ -49,15 +49,15 @@ module _ (m : Memories) (s : State) (S : Stands m s) (p : ℕ) (buffer : List �
   undamaged hp =
       on_served m.cells m.links s S.traffic (some_cells m s S) p hp
       (λ a b. rw a)
-      (λ q i tail hq head a b. rw (a, can_send_lem n m.cells m.links s.core.waiting S.traffic p hp (S.settings.in_range.operations p hp) q i tail hq head))
+      (λ q i tail hq head a b. rw (a, can_send_law n m.cells m.links s.core.waiting S.traffic p hp (S.settings.in_range.operations p hp) q i tail hq head))
 
   same_lines : first (take_refusals m.cells m.links p buffer (served n p m.links)) ≡ first (take_lines (record { port = p; buffer = length buffer }))
   unfolding take_refusals take_lines first
   same_lines =
-      let fits : links_fit m.links && cells_fit m.cells m.links ≡ true = rw (S.links_fit_lem, S.cells_fit_lem) in
+      let fits : links_fit m.links && cells_fit m.cells m.links ≡ true = rw (S.links_fit_law, S.cells_fit_law) in
       on (ltb management_port p)
       (λ e. rw (fits, e))
-      (λ e. rw S.cell_count_lem (lines_between (take_lines (record { port = p; buffer = length buffer })) fits (undamaged (omega (arith, ltb-false management_port p e)))))
+      (λ e. rw S.cell_count_law (lines_between (take_lines (record { port = p; buffer = length buffer })) fits (undamaged (omega (arith, ltb-false management_port p e)))))
 
   -- ---- what is done
 
@@ -93,5 +93,5 @@ take_follows c m s S buffer handed =
     (on_buffer m)
     (λ r. refl)
     (first (take_refusals m.cells m.links p buffer serving))
-    (rw (S.cell_count_lem, handed) (same_lines m s S p buffer))
-    (λ e. rw S.cell_count_lem (take_done m s S p buffer (take_port c e)))
+    (rw (S.cell_count_law, handed) (same_lines m s S p buffer))
+    (λ e. rw S.cell_count_law (take_done m s S p buffer (take_port c e)))

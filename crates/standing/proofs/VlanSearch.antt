@@ -17,14 +17,14 @@ module _ (l : List ℕ) (range : SettingsInRange l) (vid : ℕ) where
   -- found or not: by cases
   pub searched : {C : Type 0} → ((e : ℕ) → found_vlan l vid ≡ At e → C) → (found_vlan l vid ≡ Nowhere → C) → C
   searched at nowhere =
-      on_found (found_vlan l vid) (λ f. absurd (found_undamaged l vid range.vlan_count_lem range.vlans f)) nowhere at
+      on_found (found_vlan l vid) (λ f. absurd (found_undamaged l vid range.vlan_count_law range.vlans f)) nowhere at
 
   pub undamaged : damaged (found_vlan l vid) ≡ false
   undamaged = searched (λ e f. rw f) (λ f. rw f)
 
   pub there_is : there (found_vlan l vid) ≡ is_there (vlans_of l) vid
-  there_is = searched (λ e f. rw f (sym (found_there l vid e f).is_there_lem)) (λ f. rw f (sym (found_nowhere l vid f)))
+  there_is = searched (λ e f. rw f (sym (found_there l vid e f).is_there_law)) (λ f. rw f (sym (found_nowhere l vid f)))
 
   pub none_left_is : no_entry_left (found_vlan l vid) l ≡ Machine.no_entry_left (vlans_of l) vid
   unfolding Machine.no_entry_left
-  none_left_is = rw (there_is, vlans_length l range.vlan_count_lem)
+  none_left_is = rw (there_is, vlans_length l range.vlan_count_law)

@@ -19,7 +19,7 @@ use Rattle.settings.proofs.RangeLaws.{vlan_range}
 use Rattle.settings.proofs.OperationLaws.{range_good}
 use Rattle.settings.proofs.PortLaws.{vlan_word_good}
 use Rattle.settings.specs.Records.{vlan_words, states_at, port_operation_at}
-use Rattle.settings.proofs.RecordLaws.{vlan_written_lem, vlan_operation_written}
+use Rattle.settings.proofs.RecordLaws.{vlan_written_law, vlan_operation_written}
 use Rattle.settings.specs.Table.{vlan_count, entry_at, later_words, added_vlan, cleared_vlan}
 use Rattle.settings.proofs.TableLaws.{count_kept, count_set, run_length, moved_word}
 use Rattle.settings.specs.SettingsOf.{map_at, switches_at}
@@ -85,7 +85,7 @@ table_in_range range same few good =
       states = rw same.states range.states;
       ports = λ p h. rw (same.own p) (range.ports p h);
       operations = λ p h. rw (same.operation p) (range.operations p h);
-      vlan_count_lem = few;
+      vlan_count_law = few;
       vlans = λ e h. (good e h).own;
       vlan_operations = λ e h. (good e h).operation;
     }
@@ -97,7 +97,7 @@ module _ (l : List ℕ) (long : fixed_words ≤ length l) (range : SettingsInRan
   entry_written : (e : ℕ) (n : VlanNumbers) → e < 16 → vlan_in_range n ≡ true → Entry (sets l (vlan_word e) (vlan_words n)) e
   entry_written e n h good =
       record {
-        own = rw (vlan_written_lem l e n long h) (vlan_word_good n good);
+        own = rw (vlan_written_law l e n long h) (vlan_word_good n good);
         operation = rw (vlan_operation_written l e n long h) (range_good n.operation (vlan_range n good).operation);
       }
 
@@ -105,13 +105,13 @@ module _ (l : List ℕ) (long : fixed_words ≤ length l) (range : SettingsInRan
 
   module _ (e : ℕ) (n : VlanNumbers) (used : e < vlan_count l) where
     pub replaced_alone : OnlySet l (sets l (vlan_word e) (vlan_words n))
-    replaced_alone = set_behind l (vlan_word e) (vlan_words n) (omega arith) (omega (arith, range.vlan_count_lem))
+    replaced_alone = set_behind l (vlan_word e) (vlan_words n) (omega arith) (omega (arith, range.vlan_count_law))
 
     pub replaced_in_range : vlan_in_range n ≡ true → SettingsInRange (sets l (vlan_word e) (vlan_words n))
     replaced_in_range good =
-        let few : e < 16 = omega (arith, range.vlan_count_lem) in
+        let few : e < 16 = omega (arith, range.vlan_count_law) in
         table_in_range range (beside_run l (vlan_word e) (vlan_words n) (omega arith) (omega arith))
-        (rw (count_kept l e n long) range.vlan_count_lem)
+        (rw (count_kept l e n long) range.vlan_count_law)
         (λ i h. on (eqb i e)
         (λ same. rw (eqb-true i e same) (entry_written e n few good))
         (λ other. entry_from (other_entry l e n i (eqb-false i e other)) (there i (omega (arith, count_kept l e n long)))))
@@ -158,7 +158,7 @@ module _ (l : List ℕ) (long : fixed_words ≤ length l) (range : SettingsInRan
 
   module _ (e : ℕ) (used : e < vlan_count l) where
     ends_cleared : vlan_word e + length (later_words l e ++ replicate 2 0) ≤ port_record 0
-    ends_cleared = omega (arith, run_length l e long used range.vlan_count_lem, range.vlan_count_lem)
+    ends_cleared = omega (arith, run_length l e long used range.vlan_count_law, range.vlan_count_law)
 
     pub cleared_alone : OnlySet l (cleared_vlan l e)
     unfolding cleared_vlan
@@ -166,7 +166,7 @@ module _ (l : List ℕ) (long : fixed_words ≤ length l) (range : SettingsInRan
 
     moved : (i : ℕ) → i < vlan_count l - 1 - e → SameEntry l (sets l (vlan_word e) (later_words l e ++ replicate 2 0)) (e + i) (e + 1 + i)
     moved i h =
-        let word = moved_word l e long used range.vlan_count_lem i in
+        let word = moved_word l e long used range.vlan_count_law i in
         let own : vlan_word (e + i) + 0 ≡ vlan_word (e + i) = omega arith in
         let own' : vlan_word (e + 1 + i) + 0 ≡ vlan_word (e + 1 + i) = omega arith in
         let operation : vlan_word (e + i) + 1 ≡ vlan_operation_word (e + i) = omega arith in
@@ -178,7 +178,7 @@ module _ (l : List ℕ) (long : fixed_words ≤ length l) (range : SettingsInRan
     cleared_in_range =
         let c = vlan_count l in
         let ws = later_words l e ++ replicate 2 0 in
-        counted_in_range e ws (c - 1) ends_cleared (omega (arith, range.vlan_count_lem))
+        counted_in_range e ws (c - 1) ends_cleared (omega (arith, range.vlan_count_law))
         (λ i h. elim (dec_lt i e) as (λ _. Entry (sets l (vlan_word e) ws) i) [
           | yes k ↦ entry_from (same_before l (vlan_word e) ws i (omega arith)) (there i (omega arith))
           | no k ↦

@@ -25,7 +25,7 @@ use Rattle.settings.specs.Table.{vlan_count, vid_at, found_vlan}
 use Rattle.settings.specs.SettingsOf.{vlans_of, settings_of}
 use Rattle.settings.proofs.TableLaws.{vlans_length, vlans_at}
 use Rattle.settings.proofs.FindLaws.{entry_vid, found_there, found_nowhere}
-use Rattle.settings.proofs.SettingsLaws.{vlan_replaced, vlan_added_lem, vlan_cleared_lem}
+use Rattle.settings.proofs.SettingsLaws.{vlan_replaced, vlan_added_law, vlan_cleared_law}
 use Rattle.setting_calls.specs.Vlans.{there, vlan_written, vlan_refusals, vlan_call, vlan_erased, clear_vlan_refusals, clear_vlan_call}
 use Rattle.setting_calls.specs.Vlans as Calls
 use Rattle.standing.specs.Stands.{SettingsInRange, SettingsStand}
@@ -41,12 +41,12 @@ use Rattle.standing.proofs.VlanWrites.{replaced_alone, replaced_in_range, added_
 
 module _ (l : List ℕ) (long : fixed_words ≤ length l) (range : SettingsInRange l) (once : Distinct (vids (vlans_of l))) where
   vid_there : (e : ℕ) → e < vlan_count l → vid_of (vlans_of l) e ≡ vid_at l e
-  vid_there e used = ap (λ (v : Vlan). v.vid) (vlans_at l e absent_vlan range.vlan_count_lem used) ∙ entry_vid l e
+  vid_there e used = ap (λ (v : Vlan). v.vid) (vlans_at l e absent_vlan range.vlan_count_law used) ∙ entry_vid l e
 
   module _ (n : VlanNumbers) (good : vlan_in_range n ≡ true) (left : no_entry_left (vlans_of l) n.vid ≡ false) where
     few : is_there (vlans_of l) n.vid ≡ false → vlan_count l < 16
     unfolding no_entry_left
-    few missing = omega (arith, leb-false most_vlans (length (vlans_of l)) (rw missing at left), vlans_length l range.vlan_count_lem)
+    few missing = omega (arith, leb-false most_vlans (length (vlans_of l)) (rw missing at left), vlans_length l range.vlan_count_law)
 
     entry_stands : OnlySet l (vlan_written (found_vlan l n.vid) l n)
         × SettingsStand (vlan_written (found_vlan l n.vid) l n) (with_vlans (with_entry (vlan_entry n) (vlans_of l)) (settings_of l))
@@ -57,12 +57,12 @@ module _ (l : List ℕ) (long : fixed_words ≤ length l) (range : SettingsInRan
         (λ e f.
         let found = found_there l n.vid e f in
         let used = found.in_use in
-        let same = replaced_is (vlan_entry n) (vlans_of l) e (omega (arith, used, vlans_length l range.vlan_count_lem)) (vid_there e used ∙ found.has_vid)
+        let same = replaced_is (vlan_entry n) (vlans_of l) e (omega (arith, used, vlans_length l range.vlan_count_law)) (vid_there e used ∙ found.has_vid)
         (λ i h s. found.none_before i h (sym (vid_there i (omega (arith, used))) ∙ s)) in
         rw f (
           replaced_alone l long range e n used,
           record {
-            says = vlan_replaced l e n long good range.vlan_count_lem used ∙ ap (λ (vs : List Vlan). with_vlans vs (settings_of l)) same;
+            says = vlan_replaced l e n long good range.vlan_count_law used ∙ ap (λ (vs : List Vlan). with_vlans vs (settings_of l)) same;
             in_range = replaced_in_range l long range e n used good;
             once = distinct;
           },
@@ -72,7 +72,7 @@ module _ (l : List ℕ) (long : fixed_words ≤ length l) (range : SettingsInRan
         rw f (
           added_alone l long range n (few missing),
           record {
-            says = vlan_added_lem l n long good (few missing) ∙ ap (λ (vs : List Vlan). with_vlans vs (settings_of l)) (added_is (vlan_entry n) (vlans_of l) missing);
+            says = vlan_added_law l n long good (few missing) ∙ ap (λ (vs : List Vlan). with_vlans vs (settings_of l)) (added_is (vlan_entry n) (vlans_of l) missing);
             in_range = added_in_range l long range n (few missing) good;
             once = distinct;
           },
@@ -87,11 +87,11 @@ module _ (l : List ℕ) (long : fixed_words ≤ length l) (range : SettingsInRan
         (λ e f.
         let found = found_there l vid e f in
         let used = found.in_use in
-        let same = cleared_is vid (vlans_of l) e once (omega (arith, used, vlans_length l range.vlan_count_lem)) (vid_there e used ∙ found.has_vid) in
+        let same = cleared_is vid (vlans_of l) e once (omega (arith, used, vlans_length l range.vlan_count_law)) (vid_there e used ∙ found.has_vid) in
         rw f (
           cleared_alone l long range e used,
           record {
-            says = vlan_cleared_lem l e long used range.vlan_count_lem ∙ ap (λ (vs : List Vlan). with_vlans vs (settings_of l)) same;
+            says = vlan_cleared_law l e long used range.vlan_count_law ∙ ap (λ (vs : List Vlan). with_vlans vs (settings_of l)) same;
             in_range = cleared_in_range l long range e used;
             once = distinct_cleared _ (vlans_of l) once;
           },
@@ -118,7 +118,7 @@ vlan_follows n m s S buffer handed =
     let left : Calls.no_entry_left (found_vlan l n.vid) l ≡ no_entry_left s.core.settings.vlans n.vid =
     none_left_is l range n.vid ∙ ap (λ (vs : List Vlan). no_entry_left vs n.vid) listed in
     setting_follows m s S (vlan n) buffer (first (vlan_refusals l n))
-    (lines_between (vlan_lines _ n) S.links_fit_lem (undamaged l range n.vid) ∙ ap (λ (b : Bool). first (vlan_lines b n)) left)
+    (lines_between (vlan_lines _ n) S.links_fit_law (undamaged l range n.vid) ∙ ap (λ (b : Bool). first (vlan_lines b n)) left)
     (vlan_written (found_vlan l n.vid) l n)
     (with_vlans (with_entry (vlan_entry n) (vlans_of l)) (settings_of l))
     (ap (λ (x : Settings). settle s (with_vlans (with_entry (vlan_entry n) x.vlans) x)) (sym says))
@@ -136,7 +136,7 @@ clear_vlan_follows vid m s S buffer handed =
     let present : there (found_vlan l vid) ≡ is_there s.core.settings.vlans vid =
     there_is l range vid ∙ ap (λ (vs : List Vlan). is_there vs vid) listed in
     setting_follows m s S (clear_vlan vid) buffer (first (clear_vlan_refusals l vid))
-    (lines_between (clear_vlan_lines _ vid) S.links_fit_lem (undamaged l range vid) ∙ ap (λ (b : Bool). first (clear_vlan_lines b vid)) present)
+    (lines_between (clear_vlan_lines _ vid) S.links_fit_law (undamaged l range vid) ∙ ap (λ (b : Bool). first (clear_vlan_lines b vid)) present)
     (vlan_erased (found_vlan l vid) l)
     (with_vlans (without_entry vid (vlans_of l)) (settings_of l))
     (ap (λ (x : Settings). settle s (with_vlans (without_entry vid x.vlans) x)) (sym says))

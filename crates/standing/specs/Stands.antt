@@ -30,7 +30,7 @@ pub record SettingsInRange (links : List ℕ) : Type 0 where
   pub states : is_states_word (states_at links) ≡ true
   pub ports : (p : ℕ) → p < 5 → is_vid_word (get_or links (port_word p) 0) ≡ true
   pub operations : (p : ℕ) → p < 5 → is_operation_word (port_operation_at links p) ≡ true
-  pub vlan_count_lem : vlan_count links ≤ 16
+  pub vlan_count_law : vlan_count links ≤ 16
   pub vlans : (e : ℕ) → e < vlan_count links → is_vid_word (entry_at links e) ≡ true
   pub vlan_operations : (e : ℕ) → e < vlan_count links → is_operation_word (get_or links (vlan_operation_word e) 0) ≡ true
 
@@ -50,9 +50,9 @@ abbrev pub CountersStand : List ℕ → Counts → Type 0
 CountersStand links counts = (p k : ℕ) → p < 5 → k ≤ last_counter → counter_at links p k ≡ counts p k
 
 pub record Stands (m : Memories) (s : State) : Type 0 where
-  pub links_fit_lem : links_fit m.links ≡ true
-  pub cells_fit_lem : cells_fit m.cells m.links ≡ true
-  pub cell_count_lem : cell_count m.links ≡ s.cell_count
+  pub links_fit_law : links_fit m.links ≡ true
+  pub cells_fit_law : cells_fit m.cells m.links ≡ true
+  pub cell_count_law : cell_count m.links ≡ s.cell_count
   pub settings : SettingsStand m.links s.core.settings
   pub addresses : AddressesStand m.addresses s.core.table
   pub counters : CountersStand m.links s.counters

@@ -22,9 +22,9 @@ first_byte m =
     whole q = omega arith
 
 -- the four bytes of a tag are those of its number
-pub tag_bytes_lem : (n : ℕ) → tag_bytes (tag_is n) ≡ n / 16777216 ∷ n / 65536 % 256 ∷ n / 256 % 256 ∷ n % 256 ∷ []
+pub tag_bytes_law : (n : ℕ) → tag_bytes (tag_is n) ≡ n / 16777216 ∷ n / 65536 % 256 ∷ n / 256 % 256 ∷ n % 256 ∷ []
 unfolding tag_bytes tag_is header_bytes header_of
-tag_bytes_lem n =
+tag_bytes_law n =
     let a : n / 65536 / 256 ≡ n / 16777216 = omega arith in
     let b : n % 65536 / 256 ≡ n / 256 % 256 = omega arith in
     let d : n % 65536 % 4096 % 256 ≡ n % 256 = omega arith in
@@ -38,10 +38,10 @@ tag_run l at n =
     let one : at + 1 ≡ suc at = omega arith in
     let two : at + 2 ≡ suc (suc at) = omega arith in
     let three : at + 3 ≡ suc (suc (suc at)) = omega arith in
-    rw (tag_bytes_lem n, one, two, three)
+    rw (tag_bytes_law n, one, two, three)
 
 tag_length : (n : ℕ) → length (tag_bytes (tag_is n)) ≡ 4
-tag_length n = ap length (tag_bytes_lem n)
+tag_length n = ap length (tag_bytes_law n)
 
 -- a stack's bytes are its first tag's, and those of the rest four further on
 run_cons :

@@ -40,9 +40,9 @@ pub record Serves (n port : ℕ) (l : List ℕ) (q c : ℕ) : Type 0 where
   pub oldest : oldest_of l port q ≡ c
   pub below : c < n
 
-served_of_lem : (n port : ℕ) (l : List ℕ) (h : Highest) (q c : ℕ) → highest_of (waiting_of l port) ≡ h → served_of n port l h ≡ Frame q c → Serves n port l q c
+served_of_law : (n port : ℕ) (l : List ℕ) (h : Highest) (q c : ℕ) → highest_of (waiting_of l port) ≡ h → served_of n port l h ≡ Frame q c → Serves n port l q c
 unfolding served_of
-served_of_lem n port l (Queue k) q c is e =
+served_of_law n port l (Queue k) q c is e =
     on (ltb (oldest_of l port k) n)
     (λ b. let f : Frame k (oldest_of l port k) ≡ Frame q c = rw b at e in
     let same : k ≡ q = cc in
@@ -55,11 +55,11 @@ served_of_lem n port l (Queue k) q c is e =
       below = rw (sym first) (ltb-true (oldest_of l port k) n b);
     })
     (λ b. let f : Damaged ≡ Frame q c = rw b at e in let z : ◌≡◌ {A = ℕ} 0 1 = cc in absurd (omega arith))
-served_of_lem n port l Nothing q c is e = let z : ◌≡◌ {A = ℕ} 0 1 = cc in absurd (omega arith)
+served_of_law n port l Nothing q c is e = let z : ◌≡◌ {A = ℕ} 0 1 = cc in absurd (omega arith)
 
 pub serves : (n port : ℕ) (l : List ℕ) (q c : ℕ) → served n port l ≡ Frame q c → Serves n port l q c
 unfolding served
 serves n port l q c e =
     on (waiting_in_range l port)
-    (λ b. served_of_lem n port l (highest_of (waiting_of l port)) q c (let r : highest_of (waiting_of l port) ≡ highest_of (waiting_of l port) = cc in r) (rw b at e))
+    (λ b. served_of_law n port l (highest_of (waiting_of l port)) q c (let r : highest_of (waiting_of l port) ≡ highest_of (waiting_of l port) = cc in r) (rw b at e))
     (λ b. let f : Damaged ≡ Frame q c = rw b at e in let z : ◌≡◌ {A = ℕ} 0 1 = cc in absurd (omega arith))

@@ -33,9 +33,9 @@ use Rattle.take_out.specs.declared.serving.Next.TheVariants.{Frame, Nobody, Dama
 -- ---- a frame is sent
 
 -- memory's settings are the rules', and its frame is the machine's
-pub leaving_at_lem : (n : ℕ) (cells l : List ℕ) (port queue c : ℕ) → port < 5 → leaving_from n cells l port c ≡ leaving_at n cells l port queue c
+pub leaving_at_law : (n : ℕ) (cells l : List ℕ) (port queue c : ℕ) → port < 5 → leaving_from n cells l port c ≡ leaving_at n cells l port queue c
 unfolding leaving_at leaving_bytes leaving_stack leaving_of frame_of settings_of Settings.ports_of port_of
-leaving_at_lem n cells l port queue c h = rw (lt-ltb port 5 h)
+leaving_at_law n cells l port queue c h = rw (lt-ltb port 5 h)
 
 pub sent_is :
     (cells : List ℕ) (n : ℕ) (l : List ℕ) (port : ℕ) (out : List ℕ) (queue c : ℕ) → port < 5
@@ -46,16 +46,16 @@ pub sent_is :
     → (answer, (leaving, buffer)) ≡ taken_frame cells n l port out queue c
 unfolding taken_frame
 sent_is cells n l port out queue c known answer count buffer leaving a b e =
-    let bytes = leaving_at_lem n cells l port queue c known in
+    let bytes = leaving_at_law n cells l port queue c known in
     rw (a, e, ap (λ (p : ℕ × List ℕ). p.0) b, ap (λ (p : ℕ × List ℕ). p.1) b, bytes)
 
-pub sent_from_lem :
+pub sent_from_law :
     (n : ℕ) (l : List ℕ) (port queue c : ℕ) (departing leaving : List ℕ)
     → departing ≡ departed n port c l
     → leaving ≡ bumped port 19 (popped_at port queue c departing)
     → leaving ≡ sent_from n port queue c l
 unfolding sent_from left counter_number
-sent_from_lem n l port queue c departing leaving d e = e ∙ (rw d)
+sent_from_law n l port queue c departing leaving d e = e ∙ (rw d)
 
 -- ---- the tests of the frame
 
@@ -84,9 +84,9 @@ module _ (n port c : ℕ) (l : List ℕ) (h : StoredHeader) where
     fits_room e = Copies.room_asked n port c l below sized e ∙ (rw (fits, and_true))
 
 module _ (cells : List ℕ) (n port c : ℕ) (l : List ℕ) where
-  pub can_send_lem : can_send cells n port c l ≡ true → (can_leave n port c l ≡ true) × (header_fits (stored_at cells c) port c l ≡ true)
+  pub can_send_law : can_send cells n port c l ≡ true → (can_leave n port c l ≡ true) × (header_fits (stored_at cells c) port c l ≡ true)
   unfolding can_send
-  can_send_lem e = (and_left (can_leave n port c l) _ e, and_right (can_leave n port c l) _ e)
+  can_send_law e = (and_left (can_leave n port c l) _ e, and_right (can_leave n port c l) _ e)
 
   -- the tests with the stored header that was read
   pub by_header : (h : StoredHeader) (b : Bool) → h ≡ stored_at cells c → b ≡ (can_leave n port c l && header_fits h port c l) → can_send cells n port c l ≡ b

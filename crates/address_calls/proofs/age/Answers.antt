@@ -1,12 +1,12 @@
 -- `address_calls::age` meets its contract.
 use mathlib.Core.Path.{sym, ◌∙◌}
 use Rattle.rules.specs.Refusals.{refusal_number}
-use Rattle.layout.proofs.Fits.{addresses_fit_lem}
+use Rattle.layout.proofs.Fits.{addresses_fit_law}
 use Rattle.address_calls.proofs.Outcomes.{age_short, age_damaged, age_done}
 use Rattle.address_calls.proofs.age.Goals as goal
 
 pub age-gone-requires : goal.age-gone-requires
-age-gone-requires c = addresses_fit_lem _ (sym c.addresses_fit.ensures ∙ c.if-addresses_fit.true)
+age-gone-requires c = addresses_fit_law _ (sym c.addresses_fit.ensures ∙ c.if-addresses_fit.true)
 
 pub returns-then-all_in_range : goal.returns-then-all_in_range
 returns-then-all_in_range c =

@@ -2,7 +2,7 @@
 use mathlib.Core.Path.{sym, ◌∙◌}
 use native.Mathlib.Omega.{arith}
 use Rattle.rules.specs.Refusals.{refusal_number}
-use Rattle.address_calls.proofs.Outcomes.{found_inside, static_full, static_damaged, static_placed_lem}
+use Rattle.address_calls.proofs.Outcomes.{found_inside, static_full, static_damaged, static_placed_law}
 use Rattle.address_calls.proofs.place_static.Goals as goal
 
 pub returns-then-is_full : goal.returns-then-is_full
@@ -24,5 +24,5 @@ set_static-requires c = record {
 
 pub returns : goal.returns
 returns c =
-    static_placed_lem _ _ _ c.whole_search-found.ensures (sym c.is_full.ensures ∙ c.if-is_full.false) (sym c.is_damaged.ensures ∙ c.if-is_damaged.false)
+    static_placed_law _ _ _ c.whole_search-found.ensures (sym c.is_full.ensures ∙ c.if-is_full.false) (sym c.is_damaged.ensures ∙ c.if-is_damaged.false)
     c.set_static.ensures c.done.ensures

@@ -2,7 +2,7 @@
 use mathlib.Core.Path.{sym, ◌∙◌}
 use native.Mathlib.Omega.{arith}
 use Rattle.rules.specs.Refusals.{refusal_number}
-use Rattle.layout.proofs.Fits.{addresses_fit_lem}
+use Rattle.layout.proofs.Fits.{addresses_fit_law}
 use Rattle.address_calls.proofs.Outcomes.{key_numbers, static_short, static_port, static_range, static_group, static_goes_on}
 use Rattle.address_calls.proofs.set_static.Goals as goal
 
@@ -21,7 +21,7 @@ pub key_of-requires : goal.key_of-requires
 key_of-requires c = key_numbers _ _ (sym c.is_key.ensures ∙ c.if-is_key.true)
 
 pub place_static-requires : goal.place_static-requires
-place_static-requires c = (addresses_fit_lem _ (sym c.addresses_fit.ensures ∙ c.if-addresses_fit.true), c.key_of.ensures.1, omega arith)
+place_static-requires c = (addresses_fit_law _ (sym c.addresses_fit.ensures ∙ c.if-addresses_fit.true), c.key_of.ensures.1, omega arith)
 
 pub returns-then-is_key : goal.returns-then-is_key
 returns-then-is_key c =

@@ -1,5 +1,5 @@
 -- `addresses::remove` meets its contract.
-use Rattle.addresses.proofs.Writes.{found_inside, remove_found_lem, remove_unfound}
+use Rattle.addresses.proofs.Writes.{found_inside, remove_found_law, remove_unfound}
 use borrow.Author.Rules.{rules}
 use Rattle.addresses.proofs.remove.Goals as goal
 
@@ -10,4 +10,4 @@ pub bounds-addresses-place : goal.bounds-addresses-place
 bounds-addresses-place c = found_inside c.in-Found.is _ c.requires
 
 pub returns : goal.returns
-returns c = remove_found_lem c.in-Found.is _
+returns c = remove_found_law c.in-Found.is _

@@ -4,7 +4,7 @@ use mathlib.Core.List.{List}
 use mathlib.Core.Path.{sym, ap, ap₂, ◌∙◌}
 use native.Mathlib.Omega.{arith}
 use Rattle.rules.specs.Refusals.{refusal_number}
-use Rattle.layout.proofs.Fits.{links_fit_lem}
+use Rattle.layout.proofs.Fits.{links_fit_law}
 use Rattle.layout.specs.Answers.{done_with}
 use Rattle.layout.specs.declared.answers.Answer.{Answer}
 use Rattle.take_out.proofs.Drains.{by_links, by_port, by_damage, by_draining}
@@ -19,11 +19,11 @@ unfolding refusal_number
 returns-then-port-gt-LAST_PORT c = ap (λ (a : Answer). (a, c.args.links.now)) c.refused-then-port-gt-LAST_PORT.ensures ∙ by_port c.args.links.now c.args.port (sym c.links_fit.ensures ∙ c.if-not-links_fit.false) c.if-port-gt-LAST_PORT.true
 
 pub bounds-links-0 : goal.bounds-links-0
-bounds-links-0 c = omega (arith, (links_fit_lem c.args.links.now (sym c.links_fit.ensures ∙ c.if-not-links_fit.false)).long)
+bounds-links-0 c = omega (arith, (links_fit_law c.args.links.now (sym c.links_fit.ensures ∙ c.if-not-links_fit.false)).long)
 
 pub can_drain_all-requires : goal.can_drain_all-requires
 can_drain_all-requires c =
-    let f = links_fit_lem c.args.links.now (sym c.links_fit.ensures ∙ c.if-not-links_fit.false) in
+    let f = links_fit_law c.args.links.now (sym c.links_fit.ensures ∙ c.if-not-links_fit.false) in
     omega (arith, f, c.if-port-gt-LAST_PORT.false)
 
 pub returns-then-not-can_drain_all : goal.returns-then-not-can_drain_all
@@ -32,7 +32,7 @@ returns-then-not-can_drain_all c = ap (λ (a : Answer). (a, c.args.links.now)) c
 
 pub drain_all-copies-requires : goal.drain_all-copies-requires
 drain_all-copies-requires c =
-    let f = links_fit_lem c.args.links.now (sym c.links_fit.ensures ∙ c.if-not-links_fit.false) in
+    let f = links_fit_law c.args.links.now (sym c.links_fit.ensures ∙ c.if-not-links_fit.false) in
     omega (arith, f, c.if-port-gt-LAST_PORT.false)
 
 pub returns : goal.returns

@@ -4,7 +4,7 @@ use mathlib.Core.List.{List}
 use mathlib.Core.Path.{refl, sym, ap, ◌∙◌}
 use native.Mathlib.Omega.{arith}
 use Rattle.rules.specs.Refusals.{refusal_number}
-use Rattle.layout.proofs.Fits.{links_fit_lem, cells_fit_lem}
+use Rattle.layout.proofs.Fits.{links_fit_law, cells_fit_law}
 use Rattle.layout.specs.Lengths.{cell_count}
 use Rattle.layout.specs.declared.answers.Answer.{Answer}
 use Rattle.take_out.specs.declared.serving.Next.TheVariants.{Nobody, Damaged}
@@ -49,14 +49,14 @@ returns-then-out-lt-LARGEST_RESULT c = record {
 }
 
 pub bounds-links-0 : goal.bounds-links-0
-bounds-links-0 c = omega (arith, (links_fit_lem c.args.links.now (sym c.links_fit.ensures ∙ c.if-not-links_fit.false)).long)
+bounds-links-0 c = omega (arith, (links_fit_law c.args.links.now (sym c.links_fit.ensures ∙ c.if-not-links_fit.false)).long)
 
 pub served-next-requires : goal.served-next-requires
-served-next-requires c = omega (arith, (links_fit_lem c.args.links.now (sym c.links_fit.ensures ∙ c.if-not-links_fit.false)).long, c.if-port-gt-LAST_PORT.false)
+served-next-requires c = omega (arith, (links_fit_law c.args.links.now (sym c.links_fit.ensures ∙ c.if-not-links_fit.false)).long, c.if-port-gt-LAST_PORT.false)
 
 pub take_frame-requires : goal.take_frame-requires
-take_frame-requires c = let f = links_fit_lem c.args.links.now (sym c.links_fit.ensures ∙ c.if-not-links_fit.false) in
-    let g = cells_fit_lem c.args.cells.now c.args.links.now (sym c.cells_fit.ensures ∙ c.if-not-cells_fit.false) in
+take_frame-requires c = let f = links_fit_law c.args.links.now (sym c.links_fit.ensures ∙ c.if-not-links_fit.false) in
+    let g = cells_fit_law c.args.cells.now c.args.links.now (sym c.cells_fit.ensures ∙ c.if-not-cells_fit.false) in
     let v = serves (cell_count c.args.links.now) c.args.port c.args.links.now _ _ (sym c.served-next.ensures ∙ c.in-Frame.is) in
     record {
       n_in_bounds = (omega (arith, f.long), omega (arith, g), c.if-out-lt-LARGEST_RESULT.false, f.most, omega (arith, c.if-port-gt-LAST_PORT.false), v.queue);

@@ -6,6 +6,6 @@ use Rattle.bench.proofs.run.cut.Goals as goal
 
 pub returns : goal.returns
 returns c = let a = c.args in record {
-      text_after = cut_put a.text.now a.p _ c.put_line-told.result _ _ c.stopped.ensures c.bad_record.ensures c.put_line-told.ensures.text_after;
-      used_in_bounds = subst (λ (q : Progress). q.used ≤ length a.text.now) (sym c.stopped.ensures) c.put_line-told.ensures.used_in_bounds;
-    }
+  text_after = cut_put a.text.now a.p _ c.put_line-told.result _ _ c.stopped.ensures c.bad_record.ensures c.put_line-told.ensures.text_after;
+  used_in_bounds = subst (λ (q : Progress). q.used ≤ length a.text.now) (sym c.stopped.ensures) c.put_line-told.ensures.used_in_bounds;
+}

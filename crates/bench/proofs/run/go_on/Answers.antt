@@ -6,12 +6,12 @@ use Rattle.bench.proofs.run.go_on.Goals as goal
 
 pub returns-then-p-gt0 : goal.returns-then-p-gt0
 returns-then-p-gt0 c = record {
-      went_on = wrote refl c.flush.ensures;
-      steady = flushed_steady _ _ _ _ c.flush.ensures (omega (arith, c.requires)) (omega (arith, c.requires));
-    }
+  went_on = wrote refl c.flush.ensures;
+  steady = flushed_steady _ _ _ _ c.flush.ensures (omega (arith, c.requires)) (omega (arith, c.requires));
+}
 
 pub returns : goal.returns
 returns c = record {
-      went_on = read (omega arith) c.refill.ensures;
-      steady = refilled_steady _ _ _ _ _ c.refill.ensures (omega (arith, c.requires)) (omega (arith, c.requires)) (omega (arith, c.requires));
-    }
+  went_on = read (omega arith) c.refill.ensures;
+  steady = refilled_steady _ _ _ _ _ c.refill.ensures (omega (arith, c.requires)) (omega (arith, c.requires)) (omega (arith, c.requires));
+}

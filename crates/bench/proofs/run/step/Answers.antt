@@ -11,9 +11,9 @@ use Rattle.bench.proofs.run.step.Goals as goal
 
 pub returns-then-text-p-lt64 : goal.returns-then-text-p-lt64
 returns-then-text-p-lt64 c = let a = c.args in record {
-      steps = λ came handed on counted. flush_leads a.p _ a.input.now a.text.now came handed counted _ (omega (arith, c.requires)) c.flush.ensures;
-      steady = flushed_steady _ _ _ _ c.flush.ensures (omega (arith, c.requires)) (omega (arith, c.requires));
-    }
+  steps = λ came handed on counted. flush_leads a.p _ a.input.now a.text.now came handed counted _ (omega (arith, c.requires)) c.flush.ensures;
+  steady = flushed_steady _ _ _ _ c.flush.ensures (omega (arith, c.requires)) (omega (arith, c.requires));
+}
 
 pub go_on-requires : goal.go_on-requires
 go_on-requires c = let a = c.args in (c.requires.0, c.requires.2, sym c.next_in-next.ensures ∙ c.enum_told-1.given.1)
@@ -23,24 +23,24 @@ carry_out-requires c = let a = c.args in let there = framing.whole_is_there _ _ 
 
 pub returns-in-More : goal.returns-in-More
 returns-in-More c = let a = c.args in let e : next_at a.input.now a.p ≡ More = sym c.next_in-next.ensures ∙ c.enum_told-1.given.1 in record {
-      steps = λ came handed on counted. go_on_leads a.p _ a.input.now a.text.now came handed counted on _ _ (omega (arith, c.requires)) e c.go_on.ensures.went_on;
-      steady = c.go_on.ensures.steady;
-    }
+  steps = λ came handed on counted. go_on_leads a.p _ a.input.now a.text.now came handed counted on _ _ (omega (arith, c.requires)) e c.go_on.ensures.went_on;
+  steady = c.go_on.ensures.steady;
+}
 
 pub returns-in-Finished : goal.returns-in-Finished
 returns-in-Finished c = let a = c.args in let e : next_at a.input.now a.p ≡ Finished = sym c.next_in-next.ensures ∙ c.enum_told-in-Finished-1.given.1 in record {
-      steps = λ came handed on counted. finish_leads a.p _ a.input.now a.text.now came handed counted on _ e c.stopped.ensures;
-      steady = subst (λ (q : Progress). Steady q (length a.input.now) (length a.text.now)) (sym c.stopped.ensures) (omega (arith, c.requires));
-    }
+  steps = λ came handed on counted. finish_leads a.p _ a.input.now a.text.now came handed counted on _ e c.stopped.ensures;
+  steady = subst (λ (q : Progress). Steady q (length a.input.now) (length a.text.now)) (sym c.stopped.ensures) (omega (arith, c.requires));
+}
 
 pub returns-in-Cut : goal.returns-in-Cut
 returns-in-Cut c = let a = c.args in let e : next_at a.input.now a.p ≡ Cut = sym c.next_in-next.ensures ∙ c.enum_told-in-Cut-1.given.1 in record {
-      steps = λ came handed on counted. cut_leads a.p _ a.input.now a.text.now came handed counted on _ _ e c.cut.ensures.used_in_bounds c.cut.ensures.text_after;
-      steady = cut_steady _ _ _ _ _ c.cut.ensures.text_after (omega (arith, c.requires)) (omega (arith, c.requires)) c.cut.ensures.used_in_bounds;
-    }
+  steps = λ came handed on counted. cut_leads a.p _ a.input.now a.text.now came handed counted on _ _ e c.cut.ensures.used_in_bounds c.cut.ensures.text_after;
+  steady = cut_steady _ _ _ _ _ c.cut.ensures.text_after (omega (arith, c.requires)) (omega (arith, c.requires)) c.cut.ensures.used_in_bounds;
+}
 
 pub returns-in-Whole : goal.returns-in-Whole
 returns-in-Whole c = let a = c.args in let e : next_at a.input.now a.p ≡ Whole _ = sym c.next_in-next.ensures ∙ c.next-1.given.1 in let there = framing.whole_is_there _ _ _ e in record {
-      steps = λ came handed on counted. play_leads a.p _ a.input.now a.text.now came handed counted on _ a.out.now _ _ _ e (omega (arith, c.requires)) (omega (arith, c.requires, left_length a.input.now a.p.at a.p.end (omega (arith, c.requires)) (omega (arith, c.requires)), there)) (omega (arith, c.carry_out.ensures.steady)) c.carry_out.ensures.text_after;
-      steady = c.carry_out.ensures.steady;
-    }
+  steps = λ came handed on counted. play_leads a.p _ a.input.now a.text.now came handed counted on _ a.out.now _ _ _ e (omega (arith, c.requires)) (omega (arith, c.requires, left_length a.input.now a.p.at a.p.end (omega (arith, c.requires)) (omega (arith, c.requires)), there)) (omega (arith, c.carry_out.ensures.steady)) c.carry_out.ensures.text_after;
+  steady = c.carry_out.ensures.steady;
+}

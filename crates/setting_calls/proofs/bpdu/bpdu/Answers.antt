@@ -3,13 +3,13 @@ use mathlib.Core.Path.{sym, ◌∙◌}
 use borrow.Author.Tests.{le-leb, lt-leb}
 use Rattle.rules.specs.Refusals.{refusal_number, bpdu_lines}
 use Rattle.setting_calls.specs.Calls.{bpdu_refusals, bpdu_call}
-use Rattle.layout.proofs.Ends.{fixed_part, too_short, long_enough, out_of_range_lem, in_range}
+use Rattle.layout.proofs.Ends.{fixed_part, too_short, long_enough, out_of_range_law, in_range}
 use Rattle.setting_calls.proofs.bpdu.bpdu.Goals as goal
 
 pub returns-then-on-gt1 : goal.returns-then-on-gt1
 unfolding refusal_number bpdu_call bpdu_refusals bpdu_lines
 returns-then-on-gt1 c =
-    long_enough _ _ _ _ (sym c.links_fit.ensures ∙ c.if-links_fit.true) (out_of_range_lem _ _ _ _ (lt-leb _ _ c.if-on-gt1.true) c.refused.ensures)
+    long_enough _ _ _ _ (sym c.links_fit.ensures ∙ c.if-links_fit.true) (out_of_range_law _ _ _ _ (lt-leb _ _ c.if-on-gt1.true) c.refused.ensures)
 
 pub switch_bpdu-requires : goal.switch_bpdu-requires
 switch_bpdu-requires c =

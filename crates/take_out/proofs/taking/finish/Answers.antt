@@ -1,7 +1,7 @@
 -- `take_out::taking::finish` meets its contract.
 use native.Mathlib.Omega.{arith}
 use Rattle.departure.proofs.Copies.{leaves}
-use Rattle.take_out.proofs.Takes.{sent_from_lem}
+use Rattle.take_out.proofs.Takes.{sent_from_law}
 use Rattle.take_out.proofs.taking.finish.Goals as goal
 
 pub depart_from-requires : goal.depart_from-requires
@@ -20,5 +20,5 @@ pub returns : goal.returns
 returns c =
     record {
       value = c.done.ensures;
-      links_after = sent_from_lem c.args.n c.args.links.now c.args.port c.args.queue c.args.c _ _ c.depart_from.ensures c.leave.ensures;
+      links_after = sent_from_law c.args.n c.args.links.now c.args.port c.args.queue c.args.c _ _ c.depart_from.ensures c.leave.ensures;
     }

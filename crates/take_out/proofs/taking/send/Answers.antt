@@ -7,7 +7,7 @@ use Rattle.cells.specs.declared.stored.StoredHeader.{StoredHeader}
 use Rattle.departure.proofs.Headers.{header}
 use Rattle.departure.specs.Frames.{leaves_plain}
 use Rattle.take_out.specs.Frames.{stored_at, operation_of_port}
-use Rattle.take_out.proofs.Takes.{can_send_lem, sent_is}
+use Rattle.take_out.proofs.Takes.{can_send_law, sent_is}
 use Rattle.departure.proofs.Copies.{leaves}
 use Rattle.take_out.proofs.taking.send.Goals as goal
 
@@ -16,7 +16,7 @@ is_plain-requires c = c.requires.h_value.2
 
 pub write_plain-last-requires : goal.write_plain-last-requires
 write_plain-last-requires c =
-    let both = can_send_lem c.args.cells.now c.args.n c.args.port c.args.c c.args.links.now c.requires.h_value.1 in
+    let both = can_send_law c.args.cells.now c.args.n c.args.port c.args.c c.args.links.now c.requires.h_value.1 in
     let leaves_now = leaves c.args.n c.args.port c.args.c c.args.links.now both.0 in
     let long_is : c.args.h.length ≡ (stored_at c.args.cells.now c.args.c).length = ap (λ (h : StoredHeader). h.length) c.requires.h_value.0 in
     let plain : leaves_plain (stored_at c.args.cells.now c.args.c) (operation_of_port c.args.links.now c.args.port) ≡ true =
@@ -28,7 +28,7 @@ write_plain-last-requires c =
 
 pub finish-requires : goal.finish-requires
 finish-requires c =
-    let both = can_send_lem c.args.cells.now c.args.n c.args.port c.args.c c.args.links.now c.requires.h_value.1 in
+    let both = can_send_law c.args.cells.now c.args.n c.args.port c.args.c c.args.links.now c.requires.h_value.1 in
     let long_is : c.args.h.length ≡ (stored_at c.args.cells.now c.args.c).length = ap (λ (h : StoredHeader). h.length) c.requires.h_value.0 in
     let few : c.args.h.length ≤ 4091 = omega (arith, long_is, (header (stored_at c.args.cells.now c.args.c) c.args.port c.args.c c.args.links.now both.1).long) in
     record {
@@ -38,7 +38,7 @@ finish-requires c =
 
 pub returns-then-is_plain : goal.returns-then-is_plain
 returns-then-is_plain c =
-    let both = can_send_lem c.args.cells.now c.args.n c.args.port c.args.c c.args.links.now c.requires.h_value.1 in
+    let both = can_send_law c.args.cells.now c.args.n c.args.port c.args.c c.args.links.now c.requires.h_value.1 in
     let long_is : c.args.h.length ≡ (stored_at c.args.cells.now c.args.c).length = ap (λ (h : StoredHeader). h.length) c.requires.h_value.0 in
     let few : c.args.h.length ≤ 4091 = omega (arith, long_is, (header (stored_at c.args.cells.now c.args.c) c.args.port c.args.c c.args.links.now both.1).long) in
     record {
@@ -49,7 +49,7 @@ returns-then-is_plain c =
 
 pub write_retagged-written-requires : goal.write_retagged-written-requires
 write_retagged-written-requires c =
-    let both = can_send_lem c.args.cells.now c.args.n c.args.port c.args.c c.args.links.now c.requires.h_value.1 in
+    let both = can_send_law c.args.cells.now c.args.n c.args.port c.args.c c.args.links.now c.requires.h_value.1 in
     let leaves_now = leaves c.args.n c.args.port c.args.c c.args.links.now both.0 in
     let long_is : c.args.h.length ≡ (stored_at c.args.cells.now c.args.c).length = ap (λ (h : StoredHeader). h.length) c.requires.h_value.0 in
     record {
@@ -59,7 +59,7 @@ write_retagged-written-requires c =
 
 pub finish-requires-2 : goal.finish-requires-2
 finish-requires-2 c =
-    let both = can_send_lem c.args.cells.now c.args.n c.args.port c.args.c c.args.links.now c.requires.h_value.1 in
+    let both = can_send_law c.args.cells.now c.args.n c.args.port c.args.c c.args.links.now c.requires.h_value.1 in
     record {
       n_in_bounds = (omega arith, omega arith, omega arith, omega arith);
       links_value = (both.0, c.requires.h_value.3, c.write_retagged-written.ensures.long_le_largest_result.1, c.write_retagged-written.ensures.long_le_largest_result.0);
