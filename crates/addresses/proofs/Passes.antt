@@ -9,7 +9,7 @@ use native.Mathlib.Numerals.{add-one}
 use native.Mathlib.Omega.{arith}
 use lib.ListN.{length, get_or, drop, set, length-set, length-map, get_or-map, drop_of_length-le}
 use lib.Seq.{sets, drop-cons, drop-drop, drop-set-lt, get_or-drop}
-use Rattle.rules.specs.Choice.{if◌then◌else◌}
+use Rattle.std.specs.Prelude.{if◌then◌else◌}
 use Rattle.rules.specs.Addresses.{Entry, goes, removed}
 use Rattle.slices.proofs.Runs.{sets_turn, sets_whole}
 use Rattle.addresses.specs.Numbers.{in_range, entry_of, table_of, all_in_range}

@@ -12,7 +12,8 @@ use lib.Dec.{eqb, ltb}
 use lib.ListN.{length, get_or, drop, get_or-append, drop_of_length-le}
 use lib.Seq.{drop-cons, get_or-append-add, drop-length}
 use borrow.Author.Tests.{ne_eqb, lt-ltb, le-ltb}
-use Rattle.rules.specs.Choice.{if◌then◌else◌, Each, nobody, also}
+use Rattle.std.specs.Prelude.{if◌then◌else◌}
+use Rattle.rules.specs.Choice.{Each, nobody, also}
 use Rattle.rules.specs.Numbers.{place_count}
 use Rattle.rules.specs.Tables.{meets, search, find_in, vacant, first_empty, empty_in}
 use Rattle.rules.specs.Addresses.{run, places, bucket_of, address_keys, find, empty_for}

@@ -1,7 +1,6 @@
 -- The number that stands at a place once its entry is marked, learned, made static or aged. Assumes nothing: these are
 -- definitions.
-use Rattle.std.specs.Prelude.{ℕ, ◌+◌, ◌-◌}
-use Rattle.rules.specs.Choice.{if◌then◌else◌}
+use Rattle.std.specs.Prelude.{ℕ, ◌+◌, ◌-◌, if◌then◌else◌}
 use Rattle.rules.specs.Addresses.{learned_entry, static_entry}
 use Rattle.addresses.specs.Numbers.{marked_in, static_in, number_of}
 

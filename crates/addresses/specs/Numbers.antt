@@ -1,8 +1,7 @@
 -- The layout paper, "Address memory": how a number of the memory reads as an entry, and how an entry is written.
 -- Assumes nothing: these are definitions.
-use Rattle.std.specs.Prelude.{ℕ, ◌+◌, ◌*◌, ◌/◌, ◌%◌, Bool, true, false, ◌||◌, ◌&&◌, List, [], ◌∷◌, eqb, ltb, get_or}
+use Rattle.std.specs.Prelude.{ℕ, ◌+◌, ◌*◌, ◌/◌, ◌%◌, Bool, true, false, ◌||◌, ◌&&◌, List, [], ◌∷◌, eqb, ltb, get_or, if◌then◌else◌}
 use Rattle.std.proofs.Math.Option.{Option, none, some}
-use Rattle.rules.specs.Choice.{if◌then◌else◌}
 use Rattle.rules.specs.Addresses.{Entry, Table}
 
 -- ---- the parts of a number: bit 0 mark, bit 1 static, bits 2 to 4 port, bits 5 to 10 zero, bit 11 in use, bits 12 to

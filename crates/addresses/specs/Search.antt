@@ -1,8 +1,7 @@
 -- A look-up in address memory: the rules' search of the table that the memory holds, or damage met on the way. Assumes
 -- nothing: these are definitions.
-use Rattle.std.specs.Prelude.{ℕ, Bool, true, false, List, [], ◌∷◌, eqb, get_or}
+use Rattle.std.specs.Prelude.{ℕ, Bool, true, false, List, [], ◌∷◌, eqb, get_or, if◌then◌else◌}
 use Rattle.std.proofs.Math.Option.{Option, none, some}
-use Rattle.rules.specs.Choice.{if◌then◌else◌}
 use Rattle.rules.specs.Addresses.{Entry, places, find, empty_for}
 use Rattle.rules.specs.Tables.{Found as Match, at, nowhere}
 use Rattle.addresses.specs.Numbers.{in_range, table_of}

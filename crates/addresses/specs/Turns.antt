@@ -1,8 +1,7 @@
 -- One turn of a search: the place that it meets, and what it makes of the number there. Assumes nothing: these are
 -- definitions.
-use Rattle.std.specs.Prelude.{ℕ, ◌+◌, ◌*◌, List, [], ◌∷◌, eqb, ltb, get_or}
+use Rattle.std.specs.Prelude.{ℕ, ◌+◌, ◌*◌, List, [], ◌∷◌, eqb, ltb, get_or, if◌then◌else◌}
 use Rattle.rules.specs.Numbers.{place_count}
-use Rattle.rules.specs.Choice.{if◌then◌else◌}
 use Rattle.addresses.specs.Numbers.{port_in, used_in, parts_in_range, has}
 use Rattle.addresses.specs.declared.LookUp.{LookUp}
 use Rattle.addresses.specs.declared.LookUp.TheVariants.{Found, Vacant, Full, Damaged}

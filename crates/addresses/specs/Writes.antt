@@ -1,7 +1,6 @@
 -- What each change makes of address memory: of one place, that a look-up found before, or of every place. Assumes
 -- nothing: these are definitions.
-use Rattle.std.specs.Prelude.{ℕ, Bool, true, false, List, map, get_or, set}
-use Rattle.rules.specs.Choice.{if◌then◌else◌}
+use Rattle.std.specs.Prelude.{ℕ, Bool, true, false, List, map, get_or, set, if◌then◌else◌}
 use Rattle.rules.specs.Numbers.{place_count}
 use Rattle.rules.specs.Addresses.{removed}
 use Rattle.addresses.specs.Numbers.{static_in, table_of}

@@ -7,7 +7,8 @@ use native.Mathlib.Omega.{arith}
 use borrow.Author.Tests.{eqb-true, eqb-false}
 use lib.Dec.{eqb}
 use lib.Bits.{bit_and, and_le_l, xor_lt}
-use Rattle.rules.specs.Choice.{if◌then◌else◌, sift}
+use Rattle.std.specs.Prelude.{if◌then◌else◌}
+use Rattle.rules.specs.Choice.{sift}
 use Rattle.rules.specs.Numbers.{all_ports}
 use Rattle.rules.specs.Settings.{Settings, Vlan, departs, state_for}
 use Rattle.rules.specs.Arguments.{bit}

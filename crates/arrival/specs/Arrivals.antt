@@ -1,7 +1,6 @@
 -- What the arrival port gives a frame, by the rules' words: rules 4 to 8, the VID and the queue.
 -- Assumes nothing: these are definitions.
-use Rattle.std.specs.Prelude.{ℕ, ◌≤◌, ◌≡◌, Bool, ◌&&◌, not, List, [], ◌∷◌, eqb, length}
-use Rattle.rules.specs.Choice.{if◌then◌else◌}
+use Rattle.std.specs.Prelude.{ℕ, ◌≤◌, ◌≡◌, Bool, ◌&&◌, not, List, [], ◌∷◌, eqb, length, if◌then◌else◌}
 use Rattle.rules.specs.Lines.{Line, line, first}
 use Rattle.rules.specs.Numbers.{barred_vid, management_port, bpdu_address}
 use Rattle.rules.specs.Tags.{Tag, tags_of, destination}

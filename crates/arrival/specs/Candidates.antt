@@ -1,8 +1,8 @@
 -- The tests of the five ports as masks of ports: the candidates, those whose state passes, those left; and when masks
 -- are those of the rules' tests. Assumes nothing: these are definitions.
-use Rattle.std.specs.Prelude.{ℕ, ◌*◌, ◌/◌, ◌^◌, ◌<◌, ◌≡◌, Bool, true, false, not, List, eqb}
+use Rattle.std.specs.Prelude.{ℕ, ◌*◌, ◌/◌, ◌^◌, ◌<◌, ◌≡◌, Bool, true, false, not, List, eqb, if◌then◌else◌}
 use Rattle.std.specs.Int.Bits.{bit_and}
-use Rattle.rules.specs.Choice.{if◌then◌else◌, sift}
+use Rattle.rules.specs.Choice.{sift}
 use Rattle.rules.specs.Numbers.{all_ports}
 use Rattle.rules.specs.Tags.{is_group}
 use Rattle.rules.specs.Addresses.{key}

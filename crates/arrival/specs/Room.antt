@@ -1,7 +1,6 @@
 -- Rules 12 and 13 on link memory: the ports left, the cells and the queues, and the plan that they give. Assumes
 -- nothing: these are definitions.
-use Rattle.std.specs.Prelude.{ℕ, Bool, true, false, not, List, eqb}
-use Rattle.rules.specs.Choice.{if◌then◌else◌}
+use Rattle.std.specs.Prelude.{ℕ, Bool, true, false, not, List, eqb, if◌then◌else◌}
 use Rattle.rules.specs.Cells.{cells}
 use Rattle.rules.specs.Reasons.{reason_number, no_port_left, no_room}
 use Rattle.cells.specs.Free.{room_for}

@@ -1,6 +1,5 @@
 -- The layout paper, "Cell memory": what is stored with a frame of the rules. Assumes nothing: these are definitions.
-use Rattle.std.specs.Prelude.{ℕ, List, length, get_or}
-use Rattle.rules.specs.Choice.{if◌then◌else◌}
+use Rattle.std.specs.Prelude.{ℕ, List, length, get_or, if◌then◌else◌}
 use Rattle.rules.specs.Outcomes.{Frame}
 use Rattle.layout.specs.Places.{vlan_operation_word}
 use Rattle.settings.specs.Operations.{operation_end}

@@ -1,6 +1,5 @@
 -- What came of one read or one write. Assumes nothing: these are definitions.
-use Rattle.std.specs.Prelude.{ℕ, ◌≤◌, Bool, ℤ, pos, negsuc, nat_lt}
-use Rattle.rules.specs.Choice.{if◌then◌else◌}
+use Rattle.std.specs.Prelude.{ℕ, ◌≤◌, Bool, ℤ, pos, negsuc, nat_lt, if◌then◌else◌}
 use Rattle.bench.specs.declared.device.Transfer.{Transfer}
 use Rattle.bench.specs.declared.device.Transfer.TheVariants.{Bytes, Nothing, Again, Failed}
 

@@ -6,7 +6,7 @@ use Prim.Native.Nat.{ℕ, ◌+◌, ◌-◌, ◌≤◌, ◌<◌}
 use native.Mathlib.Omega.{arith}
 use lib.Dec.{leb, ltb}
 use borrow.Author.Tests.{leb-true, ltb-true, le-leb, lt-ltb}
-use Rattle.rules.specs.Choice.{if◌then◌else◌}
+use Rattle.std.specs.Prelude.{if◌then◌else◌}
 use Rattle.cells.specs.declared.free.Room.TheVariants.{Enough, NoRoom, Damaged}
 use Rattle.cells.specs.Free.{free_count, first_free, word_of, size_of, last_cell, room_for, is_frame, can_give_back}
 use Rattle.cells.proofs.Steps.{walk_in}

@@ -1,7 +1,6 @@
 -- The layout paper, "a record of 20 words for each cell": the free cells, the cells of a frame, taking and giving back.
 -- Assumes nothing.
-use Rattle.std.specs.Prelude.{ℕ, ◌+◌, ◌-◌, ◌*◌, ◌/◌, ◌%◌, Bool, ◌&&◌, List, get_or, set, leb, ltb}
-use Rattle.rules.specs.Choice.{if◌then◌else◌}
+use Rattle.std.specs.Prelude.{ℕ, ◌+◌, ◌-◌, ◌*◌, ◌/◌, ◌%◌, Bool, ◌&&◌, List, get_or, set, leb, ltb, if◌then◌else◌}
 use Rattle.rules.specs.Cells.{cells, longest}
 use Rattle.layout.specs.Places.{free_count_word, first_free_word, frame_word, size_unit, next_word}
 use Rattle.cells.specs.Chains.{follow, walk, behind}

@@ -1,7 +1,6 @@
 -- "Each cell is free or belongs to exactly one waiting frame", by counting. Assumes nothing.
-use Rattle.std.specs.Prelude.{ℕ, zero, suc, ◌+◌, ◌<◌, ◌≡◌, List, [], ◌++◌, eqb, ltb}
+use Rattle.std.specs.Prelude.{ℕ, zero, suc, ◌+◌, ◌<◌, ◌≡◌, List, [], ◌++◌, eqb, ltb, if◌then◌else◌}
 use Rattle.layout.specs.Counting.{times, one}
-use Rattle.rules.specs.Choice.{if◌then◌else◌}
 use Rattle.cells.specs.Chains.{next_in}
 use Rattle.cells.specs.Free.{free_count, first_free, ports_of, free_cells, frame_cells}
 

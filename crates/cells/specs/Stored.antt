@@ -1,6 +1,5 @@
 -- The layout paper, "Cell memory": the 8 bytes of stored header, read, written, and their ranges. Assumes nothing.
-use Rattle.std.specs.Prelude.{ℕ, ◌+◌, ◌*◌, ◌/◌, ◌%◌, Bool, ◌&&◌, List, [], ◌∷◌, get_or, leb, ltb}
-use Rattle.rules.specs.Choice.{if◌then◌else◌}
+use Rattle.std.specs.Prelude.{ℕ, ◌+◌, ◌*◌, ◌/◌, ◌%◌, Bool, ◌&&◌, List, [], ◌∷◌, get_or, leb, ltb, if◌then◌else◌}
 use Rattle.rules.specs.Cells.{shortest, longest}
 use Rattle.rules.specs.Operations.{Operation}
 use Rattle.rules.specs.Settings.{no_operation}

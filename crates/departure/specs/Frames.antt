@@ -1,8 +1,7 @@
 -- The frame that memory holds, as the rules have it, and what is met of its bytes when it leaves. Assumes nothing:
 -- these are definitions.
-use Rattle.std.specs.Prelude.{ℕ, ◌+◌, ◌-◌, Bool, true, false, ◌&&◌, ◌||◌, List, eqb, length, drop, replicate}
+use Rattle.std.specs.Prelude.{ℕ, ◌+◌, ◌-◌, Bool, true, false, ◌&&◌, ◌||◌, List, eqb, length, drop, replicate, if◌then◌else◌}
 use Rattle.std.proofs.lemmas.List.Edits.{sets}
-use Rattle.rules.specs.Choice.{if◌then◌else◌}
 use Rattle.rules.specs.Cells as Rules
 use Rattle.rules.specs.Tags.{Tag, tags_of}
 use Rattle.rules.specs.Operations.{Kind, none, pop, push, swap, pop_all, Operation, leaving_tags, retagged}

@@ -1,8 +1,7 @@
 -- A copy leaves a port: what is tested before, and what is written to link memory, in this order. Assumes nothing:
 -- these are definitions.
-use Rattle.std.specs.Prelude.{ℕ, ◌-◌, ◌^◌, Bool, true, ◌&&◌, List, eqb, ltb, set}
+use Rattle.std.specs.Prelude.{ℕ, ◌-◌, ◌^◌, Bool, true, ◌&&◌, List, eqb, ltb, set, if◌then◌else◌}
 use Rattle.std.specs.Int.Bits.{bit_xor}
-use Rattle.rules.specs.Choice.{if◌then◌else◌}
 use Rattle.rules.specs.Arguments.{bit}
 use Rattle.rules.specs.Counters.{Counter, counter_number}
 use Rattle.layout.specs.Places.{frame_word}

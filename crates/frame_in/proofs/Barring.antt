@@ -8,7 +8,8 @@ use native.Mathlib.Omega.{arith}
 use borrow.Author.Tests.{ne_eqb}
 use lib.Dec.{eqb, leb}
 use lib.ListN.{length, get_or}
-use Rattle.rules.specs.Choice.{if◌then◌else◌, sift}
+use Rattle.std.specs.Prelude.{if◌then◌else◌}
+use Rattle.rules.specs.Choice.{sift}
 use Rattle.rules.specs.Lines.{Line, line, first}
 use Rattle.rules.specs.Tags.{tags_of}
 use Rattle.rules.specs.Reasons.{Reason, vid4095, no_vlan, no_member, reason_number}

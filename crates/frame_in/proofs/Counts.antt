@@ -7,7 +7,8 @@ use lib.Pow.{pow_pos}
 use native.Mathlib.Omega.{arith}
 use borrow.Author.Tests.{ne_eqb}
 use lib.Dec.{eqb}
-use Rattle.rules.specs.Choice.{if◌then◌else◌, is_none}
+use Rattle.std.specs.Prelude.{if◌then◌else◌}
+use Rattle.rules.specs.Choice.{is_none}
 use Rattle.rules.specs.Facts.{Facts}
 use Rattle.rules.specs.Outcomes.{Frame, outcome_of}
 use Rattle.rules.specs.Counters.{counter_number, offered}

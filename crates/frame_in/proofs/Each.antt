@@ -8,7 +8,8 @@ use native.Mathlib.Omega.{arith}
 use lib.Dec.{eqb}
 use lib.ListN.{get_or, set}
 use lib.Seq.{set_comm, get_or-set_other}
-use Rattle.rules.specs.Choice.{if◌then◌else◌, sift}
+use Rattle.std.specs.Prelude.{if◌then◌else◌}
+use Rattle.rules.specs.Choice.{sift}
 use Rattle.rules.specs.Numbers.{all_ports}
 use Rattle.rules.specs.Addresses.{run}
 use Rattle.rules.specs.Arguments.{bit}

@@ -8,7 +8,8 @@ use native.Mathlib.Decide.{dec_le}
 use native.Mathlib.Omega.{arith}
 use lib.ListN.{get_or, set}
 use lib.Seq.{set_comm, get_or-set_other}
-use Rattle.rules.specs.Choice.{if◌then◌else◌, sift, Each, nobody, also}
+use Rattle.std.specs.Prelude.{if◌then◌else◌}
+use Rattle.rules.specs.Choice.{sift, Each, nobody, also}
 use Rattle.rules.specs.Numbers.{all_ports}
 use Rattle.rules.specs.Arguments.{bit}
 use Rattle.rules.specs.Counters.{counter_number}

@@ -8,7 +8,8 @@ use native.Mathlib.Omega.{arith}
 use borrow.Author.Tests.{ltb-false}
 use lib.Dec.{eqb, ltb}
 use lib.ListN.{length, get_or}
-use Rattle.rules.specs.Choice.{if◌then◌else◌, sift}
+use Rattle.std.specs.Prelude.{if◌then◌else◌}
+use Rattle.rules.specs.Choice.{sift}
 use Rattle.rules.specs.Lines.{first}
 use Rattle.rules.specs.Numbers.{management_port, bpdu_address}
 use Rattle.rules.specs.Tags.{destination}

@@ -1,8 +1,7 @@
 -- What a frame-in does: the rules' outcome of the frame's facts, the machine's events, and what they make of each
 -- memory.
 -- Assumes nothing: these are definitions.
-use Rattle.std.specs.Prelude.{ℕ, Bool, ◌&&◌, List, [], ◌∷◌, ◌++◌}
-use Rattle.rules.specs.Choice.{if◌then◌else◌}
+use Rattle.std.specs.Prelude.{ℕ, Bool, ◌&&◌, List, [], ◌∷◌, ◌++◌, if◌then◌else◌}
 use Rattle.rules.specs.Lines.{first}
 use Rattle.rules.specs.Tags.{destination, source}
 use Rattle.rules.specs.Reasons.{reason_number}

@@ -2,8 +2,7 @@
 -- counters of queued copies, the other counters; the code may count first, since counters stand aside
 -- (`proofs/Aside.antt`).
 -- Assumes nothing: these are definitions.
-use Rattle.std.specs.Prelude.{ℕ, ◌^◌, ◌≤◌, ◌<◌, ◌≡◌, Bool, false, not, List, [], ◌∷◌, ◌++◌, eqb, length}
-use Rattle.rules.specs.Choice.{if◌then◌else◌}
+use Rattle.std.specs.Prelude.{ℕ, ◌^◌, ◌≤◌, ◌<◌, ◌≡◌, Bool, false, not, List, [], ◌∷◌, ◌++◌, eqb, length, if◌then◌else◌}
 use Rattle.rules.specs.Cells.{cells, most_cells}
 use Rattle.rules.specs.Arguments.{bit}
 use Rattle.rules.specs.Counters.{counter_number, offered, accepted, not_learned, queued, state_out, queue_out}

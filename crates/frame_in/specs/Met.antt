@@ -1,8 +1,7 @@
 -- The layout paper, "What a call reads, for refusal 10": is a word out of its range met on a frame-in's way?
 -- Assumes nothing: these are definitions.
-use Rattle.std.specs.Prelude.{ℕ, Bool, true, false, ◌||◌, not, List, length, get_or}
+use Rattle.std.specs.Prelude.{ℕ, Bool, true, false, ◌||◌, not, List, length, get_or, if◌then◌else◌}
 use Rattle.std.proofs.Math.Option.{Option, none, some}
-use Rattle.rules.specs.Choice.{if◌then◌else◌}
 use Rattle.rules.specs.Lines.{first}
 use Rattle.rules.specs.Numbers.{bpdu_queue}
 use Rattle.rules.specs.Tags.{destination, source, tags_of}

@@ -1,7 +1,6 @@
 -- The layout paper's column "fresh": link memory of a fresh switch with n cells, word after word. Assumes nothing:
 -- these are definitions.
-use Rattle.std.specs.Prelude.{ℕ, zero, suc, ◌+◌, List, [], ◌∷◌, ◌++◌, ltb, replicate}
-use Rattle.rules.specs.Choice.{if◌then◌else◌}
+use Rattle.std.specs.Prelude.{ℕ, zero, suc, ◌+◌, List, [], ◌∷◌, ◌++◌, ltb, replicate, if◌then◌else◌}
 use Rattle.settings.specs.Fresh.{fresh_map, fresh_switches, fresh_states}
 use Rattle.settings.specs.Records.{port_words, vlan_words}
 use Rattle.settings.specs.SettingsOf.{fresh_port, fresh_vlan}

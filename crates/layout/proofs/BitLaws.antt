@@ -7,7 +7,7 @@ use lib.Pow.{pow-lt, shl-shr}
 use lib.Bits.{bit_and, bit_or, bit_xor, and_shr, and_mod, or_shr, or_mod, xor_shr, xor_mod, shifted_even, or_lt, and_lt, xor_lt}
 use borrow.Author.Tests.{eqb-false}
 use Rattle.rules.proofs.Choice.{on, and_left, and_right}
-use Rattle.rules.specs.Choice.{if◌then◌else◌}
+use Rattle.std.specs.Prelude.{if◌then◌else◌}
 use Rattle.rules.specs.Arguments.{bit}
 use Rattle.layout.specs.Bits.{less, with_bit}
 

@@ -1,6 +1,6 @@
 -- The lengths of lent memory, exactly, and their bounds. Assumes nothing.
 use Rattle.std.proofs.Common.{◌≡◌, ℕ, ◌+◌, ◌*◌, ◌≤◌, Bool, true, false, ◌&&◌, eqb, leb, ◌↔◌, List, length, sym, ap, ◌∙◌, ap₂, arith, eq-eqb, eqb-true, le-leb, leb-true}
-use Rattle.rules.specs.Choice.{if◌then◌else◌}
+use Rattle.std.specs.Prelude.{if◌then◌else◌}
 use Rattle.rules.proofs.Choice.{on, and_left, and_right}
 use Rattle.layout.specs.Places.{link_words, cell_bytes}
 use Rattle.layout.specs.Lengths.{cell_count, is_cell_count, link_words_for, links_fit, cells_fit, addresses_fit}

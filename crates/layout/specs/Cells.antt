@@ -1,6 +1,5 @@
 -- The layout paper, "next": a cell number as link memory has it. Assumes nothing: these are definitions.
-use Rattle.std.specs.Prelude.{ℕ, nat_lt}
-use Rattle.rules.specs.Choice.{if◌then◌else◌}
+use Rattle.std.specs.Prelude.{ℕ, nat_lt, if◌then◌else◌}
 
 -- "n or more stands for 0"
 unfoldable pub clamped : ℕ → ℕ → ℕ

@@ -1,7 +1,6 @@
 -- Refusal 1: the lengths of lent memory, and the count of cells that link word 0 says. Assumes nothing: these are
 -- definitions.
-use Rattle.std.specs.Prelude.{ℕ, Bool, ◌&&◌, List, length, ◌==◌, nat_le, slice_index}
-use Rattle.rules.specs.Choice.{if◌then◌else◌}
+use Rattle.std.specs.Prelude.{ℕ, Bool, ◌&&◌, List, length, ◌==◌, nat_le, slice_index, if◌then◌else◌}
 use Rattle.rules.specs.Cells.{fewest_cells, most_cells}
 use Rattle.rules.specs.Numbers.{place_count}
 use Rattle.layout.specs.Places.{link_words, cell_bytes, cell_count_word}

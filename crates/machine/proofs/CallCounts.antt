@@ -9,7 +9,8 @@ use native.Mathlib.Omega.{arith}
 use lib.Dec.{eqb}
 use lib.ListN.{length}
 use borrow.Author.Tests.{eqb-true, eq-eqb, ne_eqb}
-use Rattle.rules.specs.Choice.{if◌then◌else◌, is_nothing, among, Distinct}
+use Rattle.std.specs.Prelude.{if◌then◌else◌}
+use Rattle.rules.specs.Choice.{is_nothing, among, Distinct}
 use Rattle.rules.specs.Numbers.{all_ports}
 use Rattle.rules.specs.Reasons.{Reason, short, long, group_source, tag_count, port_blocking, port_listening, vid4095, no_vlan, no_member, port_learning, no_candidate, no_port_left, no_room, reason_number}
 use Rattle.rules.specs.Counters.{Counter, offered, counter_number}

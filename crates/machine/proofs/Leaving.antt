@@ -7,7 +7,8 @@ use mathlib.Core.Option.{none, some}
 use native.Mathlib.Omega.{arith}
 use lib.Dec.{eqb}
 use lib.ListN.{length}
-use Rattle.rules.specs.Choice.{if◌then◌else◌, sift, among, without, Each, nobody, also}
+use Rattle.std.specs.Prelude.{if◌then◌else◌}
+use Rattle.rules.specs.Choice.{sift, among, without, Each, nobody, also}
 use Rattle.rules.specs.Numbers.{place_count}
 use Rattle.rules.specs.Outcomes.{Frame}
 use Rattle.rules.specs.Settings.{Settings}

@@ -5,7 +5,8 @@ use mathlib.Core.Bool.{Bool, true, false}
 use mathlib.Core.List.{List, [], ◌∷◌}
 use lib.Dec.{eqb}
 use borrow.Author.Tests.{eqb-true, eq-eqb, ne_eqb, le-leb}
-use Rattle.rules.specs.Choice.{if◌then◌else◌, sift, changed}
+use Rattle.std.specs.Prelude.{if◌then◌else◌}
+use Rattle.rules.specs.Choice.{sift, changed}
 use Rattle.rules.specs.Settings.{Vlan, is_there, vlan_of}
 use Rattle.rules.specs.Addresses.{key, set_static}
 use Rattle.rules.specs.Addresses as Addresses

@@ -1,8 +1,8 @@
 -- What each counter counts of each call: every counter, every port, exactly when. `proofs/CallCounts.antt` proves it.
 -- Assumes nothing: these are definitions.
-use Rattle.std.specs.Prelude.{ℕ, ◌≤◌, ◌≡◌, Bool, false, ◌&&◌, [], eqb, length}
+use Rattle.std.specs.Prelude.{ℕ, ◌≤◌, ◌≡◌, Bool, false, ◌&&◌, [], eqb, length, if◌then◌else◌}
 use Rattle.std.proofs.Math.Option.{Option, none, some}
-use Rattle.rules.specs.Choice.{if◌then◌else◌, is_nothing}
+use Rattle.rules.specs.Choice.{is_nothing}
 use Rattle.rules.specs.Tables.{nowhere}
 use Rattle.rules.specs.Addresses.{find, empty_for, after_look_up}
 use Rattle.rules.specs.Reasons.{Reason, reason_number}

@@ -8,7 +8,7 @@ use native.Mathlib.Omega.{arith}
 use lib.Dec.{eqb}
 use lib.ListN.{length}
 use Rattle.layout.specs.Counting.{times}
-use Rattle.rules.specs.Choice.{if◌then◌else◌}
+use Rattle.std.specs.Prelude.{if◌then◌else◌}
 use Rattle.rules.proofs.Choice.{on}
 use Rattle.layout.specs.Places.{link_words}
 use Rattle.layout.specs.Same.{QueuesSame}

@@ -6,7 +6,7 @@ use native.Mathlib.Omega.{arith}
 use lib.Dec.{eqb}
 use lib.Count.{count_leading_zeros, leading_top}
 use borrow.Author.Tests.{eqb-true, eqb-false, eq-eqb, ne_eqb}
-use Rattle.rules.specs.Choice.{if◌then◌else◌}
+use Rattle.std.specs.Prelude.{if◌then◌else◌}
 use Rattle.rules.proofs.Choice.{on}
 use Rattle.queues.specs.declared.Highest.TheVariants.{Queue, Nothing}
 use Rattle.queues.specs.Lists.{bit, highest_of}

@@ -1,7 +1,6 @@
 -- The layout paper, "A queue": linked lists in link memory. What is read, what each operation writes, and the
 -- frames of a queue. Assumes nothing: these are definitions.
-use Rattle.std.specs.Prelude.{ℕ, zero, suc, ◌+◌, Bool, ◌&&◌, true, false, List, [], ◌∷◌, get_or, set, eqb, ltb}
-use Rattle.rules.specs.Choice.{if◌then◌else◌}
+use Rattle.std.specs.Prelude.{ℕ, zero, suc, ◌+◌, Bool, ◌&&◌, true, false, List, [], ◌∷◌, get_or, set, eqb, ltb, if◌then◌else◌}
 use Rattle.layout.specs.Bits.{with_bit}
 use Rattle.layout.specs.Places.{waiting_word, oldest_word, youngest_word, behind_word}
 use Rattle.queues.specs.declared.Highest.{Highest}

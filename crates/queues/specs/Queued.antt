@@ -1,8 +1,8 @@
 -- What it means that link memory holds a list of frames as a queue, and that it holds all 20. A frame is known by its
 -- first cell. Assumes nothing: these are definitions.
-use Rattle.std.specs.Prelude.{ℕ, ◌+◌, ◌≤◌, ◌<◌, ◌≡◌, Bool, true, false, ◌&&◌, List, [], ◌∷◌, ◌++◌, eqb}
+use Rattle.std.specs.Prelude.{ℕ, ◌+◌, ◌≤◌, ◌<◌, ◌≡◌, Bool, true, false, ◌&&◌, List, [], ◌∷◌, ◌++◌, eqb, if◌then◌else◌}
 use Rattle.layout.specs.Counting.{times}
-use Rattle.rules.specs.Choice.{if◌then◌else◌, Each}
+use Rattle.rules.specs.Choice.{Each}
 use Rattle.queues.specs.declared.Highest.{Highest}
 use Rattle.queues.specs.declared.Highest.TheVariants.{Queue, Nothing}
 use Rattle.queues.specs.Lists.{waiting_of, oldest_of, youngest_of, behind_of, bit, list_of}

@@ -8,7 +8,7 @@ use native.Mathlib.Decide.{dec_le}
 use lib.Dec.{ltb}
 use lib.ListN.{length, set, length-append}
 use borrow.Author.Tests.{lt-ltb, le-ltb, eq-eqb, ne_eqb}
-use Rattle.rules.specs.Choice.{if◌then◌else◌}
+use Rattle.std.specs.Prelude.{if◌then◌else◌}
 use Rattle.slices.proofs.Runs.{sets_append}
 use Rattle.layout.specs.declared.answers.Answer.{Answer}
 use Rattle.records.specs.Lines.{digit, digits, decimal, space, newline, field, ok_text, refused_text, outcome, line_of, written}

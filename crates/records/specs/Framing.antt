@@ -1,6 +1,5 @@
 -- The bench program: where the next record ends. Assumes nothing: these are definitions.
-use Rattle.std.specs.Prelude.{ℕ, ◌+◌, Bool, List, eqb, ltb, length}
-use Rattle.rules.specs.Choice.{if◌then◌else◌}
+use Rattle.std.specs.Prelude.{ℕ, ◌+◌, Bool, List, eqb, ltb, length, if◌then◌else◌}
 use Rattle.records.specs.Reading.{little_endian_at}
 use Rattle.records.specs.declared.framing.Next.{Next}
 use Rattle.records.specs.declared.framing.Next.TheVariants.{More, Finished, Cut, Whole}

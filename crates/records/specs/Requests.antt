@@ -1,6 +1,5 @@
 -- The bench program: what a record asks of the switch. Assumes nothing: these are definitions.
-use Rattle.std.specs.Prelude.{ℕ, ◌+◌, Bool, false, List, [], ◌∷◌, eqb, leb, ltb, length, drop}
-use Rattle.rules.specs.Choice.{if◌then◌else◌}
+use Rattle.std.specs.Prelude.{ℕ, ◌+◌, Bool, false, List, [], ◌∷◌, eqb, leb, ltb, length, drop, if◌then◌else◌}
 use Rattle.rules.specs.Tags.{address_at}
 use Rattle.records.specs.Reading.{byte_at, little_endian_at, kind_of}
 use Rattle.settings.specs.declared.operation.OperationSettings.{OperationSettings}

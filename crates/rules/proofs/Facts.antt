@@ -7,7 +7,8 @@ use mathlib.Core.List.{List, [], ◌∷◌, Memᴰ}
 use lib.Dec.{eqb}
 use lib.ListN.{length}
 use borrow.Author.Tests.{eqb-true, eqb-false, eq-eqb, ne_eqb, ltb-true, lt-ltb, not-true}
-use Rattle.rules.specs.Choice.{if◌then◌else◌, Each, nobody, also}
+use Rattle.std.specs.Prelude.{if◌then◌else◌}
+use Rattle.rules.specs.Choice.{Each, nobody, also}
 use Rattle.rules.specs.Cells.{cells}
 use Rattle.rules.specs.Tags.{Header, Tag, tags_of, destination}
 use Rattle.rules.specs.Operations.{header_at}

@@ -1,7 +1,7 @@
 -- What a frame's facts come to. Assumes nothing.
 use mathlib.Core.Path.{ap, ap₂}
 use mathlib.Core.Bool.{Bool, ◌&&◌}
-use Rattle.rules.specs.Choice.{if◌then◌else◌}
+use Rattle.std.specs.Prelude.{if◌then◌else◌}
 use Rattle.rules.specs.Addresses.{Table, after_look_up, is_no_place, learning_of, learn_by, learn}
 use Rattle.rules.specs.Facts.{Facts}
 use Rattle.rules.specs.Outcomes.{outcome_by, outcome_of, learns, learning_for, table_after, is_not_learned, frame_of}

@@ -6,7 +6,8 @@ use mathlib.Core.List.{List, [], ◌∷◌}
 use native.Mathlib.Omega.{arith}
 use lib.Dec.{eqb}
 use borrow.Author.Tests.{eqb-true, eqb-false, eq-eqb, ne_eqb, not-false, not-true}
-use Rattle.rules.specs.Choice.{if◌then◌else◌, sift, among}
+use Rattle.std.specs.Prelude.{if◌then◌else◌}
+use Rattle.rules.specs.Choice.{sift, among}
 use Rattle.rules.specs.Numbers.{all_ports}
 use Rattle.rules.specs.Settings.{PortState, disabled, blocking, listening, learning, forwarding, Settings, Vlan, departs, state_for}
 use Rattle.rules.specs.Addresses.{Table}

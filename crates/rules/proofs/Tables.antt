@@ -7,7 +7,8 @@ use mathlib.Core.Option.{Option, none, some}
 use native.Mathlib.Omega.{arith}
 use lib.Dec.{eqb}
 use borrow.Author.Tests.{eqb-true, eqb-false, eq-eqb, ne_eqb}
-use Rattle.rules.specs.Choice.{if◌then◌else◌, among, changed, Each, nobody, also}
+use Rattle.std.specs.Prelude.{if◌then◌else◌}
+use Rattle.rules.specs.Choice.{among, changed, Each, nobody, also}
 use Rattle.rules.specs.Tables.{Keyed, TableOf, put, Found, at, nowhere, meets, search, find_in, vacant, first_empty, empty_in, place_by, place_in, put_at, set_in, remove_found, remove_in, Sound}
 use Rattle.rules.specs.TableTheorems.{FirstPlace, TableTheorems}
 use Rattle.rules.proofs.Choice.{on, on_option, eqb_self}

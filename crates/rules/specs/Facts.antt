@@ -1,8 +1,7 @@
 -- The facts of a frame at its arrival port: what the frame, the settings, the address table and the free cells give it.
 -- They are made once, when it arrives; the reasons, the events and the stored frame read them. Assumes nothing: these
 -- are definitions.
-use Rattle.std.specs.Prelude.{ℕ, Bool, ◌&&◌, not, List, eqb, ltb, length}
-use Rattle.rules.specs.Choice.{if◌then◌else◌}
+use Rattle.std.specs.Prelude.{ℕ, Bool, ◌&&◌, not, List, eqb, ltb, length, if◌then◌else◌}
 use Rattle.rules.specs.Numbers.{management_port, bpdu_queue, bpdu_address}
 use Rattle.rules.specs.Cells.{cells}
 use Rattle.rules.specs.Tags.{Header, Tag, tags_of, destination, source, is_group}

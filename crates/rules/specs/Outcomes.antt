@@ -1,9 +1,8 @@
 -- What a frame's facts come to: its one outcome, the frame that is stored, and what its source leaves in the address
 -- table.
 -- Assumes nothing: these are definitions.
-use Rattle.std.specs.Prelude.{ℕ, Bool, ◌&&◌, not, List}
+use Rattle.std.specs.Prelude.{ℕ, Bool, ◌&&◌, not, List, if◌then◌else◌}
 use Rattle.std.proofs.Math.Option.{Option, none, some}
-use Rattle.rules.specs.Choice.{if◌then◌else◌}
 use Rattle.rules.specs.Operations.{Operation, Origin}
 use Rattle.rules.specs.Settings.{no_operation}
 use Rattle.rules.specs.Addresses.{Table, Learning, after_look_up, learning_of, is_no_place, learn_by}

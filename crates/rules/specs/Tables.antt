@@ -2,9 +2,9 @@
 -- an entry is set and removed, and the law that a key has at most one entry. The address table is one; a second may use
 -- the same laws.
 -- A table is a function of the place, so that a change is of one place. Assumes nothing: these are definitions.
-use Rattle.std.specs.Prelude.{ℕ, ◌≡◌, Bool, true, false, List, [], ◌∷◌, eqb}
+use Rattle.std.specs.Prelude.{ℕ, ◌≡◌, Bool, true, false, List, [], ◌∷◌, eqb, if◌then◌else◌}
 use Rattle.std.proofs.Math.Option.{Option, none, some}
-use Rattle.rules.specs.Choice.{if◌then◌else◌, among, changed}
+use Rattle.rules.specs.Choice.{among, changed}
 
 -- what a kind of table is: the key of an entry, and the places of a key in the order of the search
 pub record Keyed (E : Type 0) : Type 0 where

@@ -6,7 +6,7 @@ use native.Mathlib.Omega.{arith}
 use borrow.Author.Tests.{ltb-true, lt-ltb}
 use lib.Dec.{eqb}
 use lib.Pow.{shr-shr}
-use Rattle.rules.specs.Choice.{if◌then◌else◌}
+use Rattle.std.specs.Prelude.{if◌then◌else◌}
 use Rattle.rules.specs.Arguments.{bit}
 use Rattle.layout.proofs.BitLaws.{written_there, written_elsewhere, written_small, five}
 use Rattle.settings.specs.Maps.{is_map_word, queue_in, bpdu_in, with_queue, with_bpdu}

@@ -8,7 +8,8 @@ use native.Mathlib.Omega.{arith}
 use borrow.Author.Tests.{lt-ltb, le-ltb, eqb-true, eqb-false}
 use lib.Dec.{eqb}
 use lib.ListN.{get_or}
-use Rattle.rules.specs.Choice.{if◌then◌else◌, changed}
+use Rattle.std.specs.Prelude.{if◌then◌else◌}
+use Rattle.rules.specs.Choice.{changed}
 use Rattle.rules.specs.Arguments.{port_of}
 use Rattle.layout.specs.Places.{port_record, free_count_word, first_free_word, map_word, switches_word, vlan_count_word, states_word, port_word, port_operation_word, vlan_word, vlan_operation_word}
 use Rattle.settings.specs.Records.{states_at, port_at, vlan_at}

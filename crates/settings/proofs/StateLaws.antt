@@ -8,7 +8,7 @@ use native.Mathlib.Omega.{arith}
 use borrow.Author.Tests.{eqb-true, eqb-false, eq-eqb, ltb-true}
 use lib.Dec.{eqb, ltb}
 use lib.Bits.{bit_and, bit_or}
-use Rattle.rules.specs.Choice.{if◌then◌else◌}
+use Rattle.std.specs.Prelude.{if◌then◌else◌}
 use Rattle.rules.proofs.Choice.{on, and_false, and_left, and_right}
 use Rattle.rules.specs.Arguments.{bit, state_of}
 use Rattle.rules.specs.Settings.{departs, is_blocking, is_listening, is_learning}

@@ -1,6 +1,5 @@
 -- What link memory says: the rules' settings that its words mean. Assumes nothing: these are definitions.
-use Rattle.std.specs.Prelude.{ℕ, zero, suc, ◌+◌, ◌/◌, min, Bool, true, List, [], ◌∷◌, ltb, get_or}
-use Rattle.rules.specs.Choice.{if◌then◌else◌}
+use Rattle.std.specs.Prelude.{ℕ, zero, suc, ◌+◌, ◌/◌, min, Bool, true, List, [], ◌∷◌, ltb, get_or, if◌then◌else◌}
 use Rattle.rules.specs.Settings.{Port, Vlan, Settings}
 use Rattle.rules.specs.Arguments.{OperationNumbers, PortNumbers, VlanNumbers, port_of, vlan_entry}
 use Rattle.layout.specs.Places.{map_word, switches_word}

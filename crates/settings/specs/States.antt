@@ -2,9 +2,8 @@
 -- Listening; bit 16 + p, it is Learning or Forwarding. No port has a bit beside a bit, which leaves five patterns for
 -- the five states, and the rest of the word is 0: one `&` and one comparison say both. Assumes nothing: these are
 -- definitions.
-use Rattle.std.specs.Prelude.{ℕ, ◌+◌, ◌/◌, Bool, true, false, ◌||◌, eqb, ltb}
+use Rattle.std.specs.Prelude.{ℕ, ◌+◌, ◌/◌, Bool, true, false, ◌||◌, eqb, ltb, if◌then◌else◌}
 use Rattle.std.specs.Int.Bits.{bit_and, bit_or}
-use Rattle.rules.specs.Choice.{if◌then◌else◌}
 use Rattle.rules.specs.Arguments.{bit}
 use Rattle.rules.specs.Settings.{PortState, is_blocking, is_listening}
 use Rattle.layout.specs.Bits.{with_bit}

@@ -1,8 +1,7 @@
 -- The VLAN table in link memory: searching it, adding an entry and clearing one. Assumes nothing: these are
 -- definitions.
-use Rattle.std.specs.Prelude.{ℕ, zero, suc, ◌+◌, ◌-◌, ◌*◌, List, ◌++◌, eqb, leb, get_or, set, take, drop, replicate}
+use Rattle.std.specs.Prelude.{ℕ, zero, suc, ◌+◌, ◌-◌, ◌*◌, List, ◌++◌, eqb, leb, get_or, set, take, drop, replicate, if◌then◌else◌}
 use Rattle.std.proofs.lemmas.List.Edits.{sets}
-use Rattle.rules.specs.Choice.{if◌then◌else◌}
 use Rattle.rules.specs.Arguments.{VlanNumbers}
 use Rattle.layout.specs.Places.{vlan_count_word, vlan_word}
 use Rattle.settings.specs.Ports.{is_vid_word, vid_in}

@@ -8,7 +8,8 @@ use native.Mathlib.Omega.{arith}
 use lib.Dec.{eqb}
 use lib.ListN.{length}
 use borrow.Author.Tests.{eqb-false}
-use Rattle.rules.specs.Choice.{if◌then◌else◌, sift, among, changed, Distinct, Each, nobody, also}
+use Rattle.std.specs.Prelude.{if◌then◌else◌}
+use Rattle.rules.specs.Choice.{sift, among, changed, Distinct, Each, nobody, also}
 use Rattle.rules.specs.Cells.{cells, longest}
 use Rattle.rules.specs.Outcomes.{Frame}
 use Rattle.rules.specs.Numbers.{all_ports}

@@ -8,7 +8,8 @@ use lib.Dec.{eqb}
 use lib.ListN.{length}
 use lib.Seq.{sets}
 use borrow.Author.Tests.{eqb-true, lt-ltb, le-ltb}
-use Rattle.rules.specs.Choice.{if◌then◌else◌, sift, among, Each, nobody, also}
+use Rattle.std.specs.Prelude.{if◌then◌else◌}
+use Rattle.rules.specs.Choice.{sift, among, Each, nobody, also}
 use Rattle.rules.specs.Numbers.{all_ports}
 use Rattle.rules.specs.Addresses.{Table}
 use Rattle.rules.specs.AddressTheorems.{entries}

@@ -10,7 +10,8 @@ use lib.Dec.{eqb}
 use lib.ListN.{length, get_or, set, length-set}
 use lib.Seq.{get_or-set_same, get_or-set_other}
 use borrow.Author.Tests.{eqb-false}
-use Rattle.rules.specs.Choice.{if◌then◌else◌, sift, among, without, changed, Distinct, Each, nobody, also, is_none}
+use Rattle.std.specs.Prelude.{if◌then◌else◌}
+use Rattle.rules.specs.Choice.{sift, among, without, changed, Distinct, Each, nobody, also, is_none}
 use Rattle.rules.proofs.Choice.{on, on_list, and_left, eqb_self}
 use Rattle.machine.specs.Waiting.{Waiting, size, waits_at, send}
 use Rattle.machine.specs.FrameIn.{mask}

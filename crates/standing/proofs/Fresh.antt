@@ -7,7 +7,8 @@ use native.Mathlib.Omega.{arith}
 use lib.Dec.{ltb}
 use lib.ListN.{length}
 use Rattle.layout.specs.Counting.{times, one}
-use Rattle.rules.specs.Choice.{if◌then◌else◌, sift, nobody}
+use Rattle.std.specs.Prelude.{if◌then◌else◌}
+use Rattle.rules.specs.Choice.{sift, nobody}
 use Rattle.rules.specs.Settings.{no_operation}
 use Rattle.machine.specs.Waiting.{Waiting, cells_in_use}
 use Rattle.layout.specs.Places.{link_words, cell_bytes}

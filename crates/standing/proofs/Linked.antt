@@ -9,7 +9,8 @@ use lib.ListN.{length, length-append}
 use borrow.Author.Tests.{eqb-true}
 use Rattle.layout.specs.Counting.{one, times}
 use Rattle.layout.proofs.Counting.{times_append}
-use Rattle.rules.specs.Choice.{if◌then◌else◌, sift, among, without, changed, Each, nobody, also}
+use Rattle.std.specs.Prelude.{if◌then◌else◌}
+use Rattle.rules.specs.Choice.{sift, among, without, changed, Each, nobody, also}
 use Rattle.rules.specs.Outcomes.{Frame}
 use Rattle.machine.specs.Waiting.{Waiting, size, cells_in_use, waits_at, stay, leave, send, join}
 use Rattle.standing.specs.Links.{Links, rows_of, RowOk, Stands, link_in, freed, link_out}

@@ -7,7 +7,8 @@ use mathlib.Core.Option.{Option, none, some}
 use native.Mathlib.Omega.{arith}
 use lib.Dec.{eqb, leb}
 use lib.ListN.{length}
-use Rattle.rules.specs.Choice.{if◌then◌else◌, also}
+use Rattle.std.specs.Prelude.{if◌then◌else◌}
+use Rattle.rules.specs.Choice.{also}
 use Rattle.rules.specs.Lines.{first}
 use Rattle.rules.specs.Refusals.{Refusal, memory_length, fresh_lines}
 use Rattle.rules.proofs.Choice.{on, and_left}

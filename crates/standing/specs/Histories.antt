@@ -1,8 +1,8 @@
 -- Histories on memory: a fresh call, then a driver's calls one after another, any of the fourteen, fresh calls and
 -- calls on memory of another length among them. Assumes nothing: these are definitions.
-use Rattle.std.specs.Prelude.{ℕ, ◌≡◌, Bool, false, List, [], ◌∷◌, map}
+use Rattle.std.specs.Prelude.{ℕ, ◌≡◌, Bool, false, List, [], ◌∷◌, map, if◌then◌else◌}
 use Rattle.std.proofs.lemmas.List.Edits.{sets}
-use Rattle.rules.specs.Choice.{if◌then◌else◌, Each}
+use Rattle.rules.specs.Choice.{Each}
 use Rattle.machine.specs.State.{State, Call, Answer}
 use Rattle.machine.specs.History.{HostCall, start, after₁, answer₁}
 use Rattle.machine.specs.History as Machine

@@ -1,9 +1,9 @@
 -- How links stand for the waiting traffic, whatever memory they are read from: the free cells, a row of cells for each
 -- frame, what is held of a frame, and the frames of each queue. A frame is known by its first cell.
 -- Assumes nothing: these are definitions.
-use Rattle.std.specs.Prelude.{ℕ, ◌+◌, ◌<◌, ◌≡◌, ◌&&◌, List, [], ◌∷◌, ◌++◌, map, eqb, ltb, length}
+use Rattle.std.specs.Prelude.{ℕ, ◌+◌, ◌<◌, ◌≡◌, ◌&&◌, List, [], ◌∷◌, ◌++◌, map, eqb, ltb, length, if◌then◌else◌}
 use Rattle.layout.specs.Counting.{times}
-use Rattle.rules.specs.Choice.{if◌then◌else◌, sift, among, without, Each, changed}
+use Rattle.rules.specs.Choice.{sift, among, without, Each, changed}
 use Rattle.rules.specs.Outcomes.{Frame}
 use Rattle.machine.specs.Waiting.{Waiting, size, cells_in_use, waits_at}
 

@@ -1,6 +1,5 @@
 -- Which frame leaves: "the oldest frame of its highest-numbered waiting queue". Assumes nothing: these are definitions.
-use Rattle.std.specs.Prelude.{ℕ, List, ltb}
-use Rattle.rules.specs.Choice.{if◌then◌else◌}
+use Rattle.std.specs.Prelude.{ℕ, List, ltb, if◌then◌else◌}
 use Rattle.queues.specs.Lists.{waiting_of, oldest_of, waiting_in_range, highest_of}
 use Rattle.queues.specs.declared.Highest.{Highest}
 use Rattle.queues.specs.declared.Highest.TheVariants.{Queue, Nothing}

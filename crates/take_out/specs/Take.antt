@@ -1,7 +1,6 @@
 -- The call take: what it meets, what it answers and what it writes. Assumes nothing: these are definitions.
-use Rattle.std.specs.Prelude.{ℕ, Bool, true, false, not, ◌&&◌, List, [], ◌∷◌, ◌++◌, length, take}
+use Rattle.std.specs.Prelude.{ℕ, Bool, true, false, not, ◌&&◌, List, [], ◌∷◌, ◌++◌, length, take, if◌then◌else◌}
 use Rattle.std.proofs.lemmas.List.Edits.{sets}
-use Rattle.rules.specs.Choice.{if◌then◌else◌}
 use Rattle.rules.specs.Lines.{Line, first}
 use Rattle.rules.specs.Counters.{sent}
 use Rattle.rules.specs.Refusals.{Refusal, memory_damaged, take_lines}
