@@ -1,7 +1,7 @@
 # The C library's way into a system: header, archive and pkg-config file.
 #   make install PREFIX=/usr/local DESTDIR=
 #   make uninstall PREFIX=/usr/local DESTDIR=
-# Without the archive, or with one that is older than the sources, rt proves the library and makes it. INCLUDEDIR, LIBDIR and PKGCONFIGDIR
+# Without the archive, or with one that is older than the sources, tools/prove proves the library and makes it. INCLUDEDIR, LIBDIR and PKGCONFIGDIR
 # may be set too; those below PREFIX stand in the pkg-config file as ${prefix}/.., so that it can be used from another prefix.
 
 PREFIX ?= /usr/local
@@ -15,8 +15,8 @@ ARCHIVE = target/staticlib/libgufhrandi.a
 
 all: $(ARCHIVE)
 
-$(ARCHIVE): crates.txt $(shell find crates -type f)
-	rt staticlib gufhrandi
+$(ARCHIVE): crates.txt $(shell find crates -path 'crates/*/out' -prune -o -type f -print)
+	tools/prove gufhrandi_c
 
 install: $(ARCHIVE)
 	install -d "$(DESTDIR)$(INCLUDEDIR)" "$(DESTDIR)$(LIBDIR)" "$(DESTDIR)$(PKGCONFIGDIR)"

@@ -12,8 +12,8 @@ MODEL = f'#!/bin/sh\nexec "{support.MODEL}"\n'
 CANNOT_WRITE = "#!/bin/sh\ncat >/dev/null\necho 1 2 ok 0 0\necho 'bench: cannot write' >&2\n"
 SAYS_TOO_MUCH = f"#!/bin/sh\ncat >/dev/null\necho 'bench: {'x' * 5000}' >&2\n"
 
-# The kit's command, as far as it is needed here: 'rt check bench' builds.
-KIT = "#!/bin/sh\n[ \"$*\" = 'check bench' ] || exit 3\nmkdir -p target/bin\ncp bench-to-be target/bin/bench\n"
+# The kit's command, as far as it is needed here: in the crate's folder 'rt run' builds.
+KIT = "#!/bin/sh\n[ \"$*\" = run ] && [ \"${PWD##*/}\" = bench ] || exit 3\nmkdir -p out\ncp ../../bench-to-be out/bench\n"
 KIT_THAT_FAILS = "#!/bin/sh\necho 'crates/bench: not proved' >&2\nexit 1\n"
 
 LESSON = "lesson: one\ntake at 0\nexpect empty\n"
@@ -24,8 +24,9 @@ class DefaultBench(support.CommandCase):
     def setUp(self):
         super().setUp()
         shutil.copytree(support.TOP / "tools", self.directory / "tools")
-        (self.directory / "crates").mkdir()
-        self.file("crates.txt", "")
+        (self.directory / "crates/bench/src").mkdir(parents=True)
+        self.file("crates/bench/src/main.rt", "")
+        self.file("crates.txt", "bench:\n")
         self.program("tools/run-x86-64", RUNNER)
         self.lesson = self.file("one.lesson", LESSON)
 

@@ -1,5 +1,5 @@
-// The C interface: each function is the call of its name, and promises what the call does. include/gufhrandi.h declares
-// them.
+// The calls of a driver: each function is the call of its name, and promises what the call does. Crate gufhrandi_c hands
+// them to C under the same names.
 #![tactic(auto)]
 
 ghost use Rattle.std.specs.Prelude.{◌≡◌};
@@ -17,27 +17,24 @@ use settings::operation::OperationSettings;
 use settings::port::PortSettings;
 use settings::vlan::VlanSettings;
 
-pub mod perform; // any call, by the C function of its name
+pub mod perform; // any call, by the function of its name
 pub mod handed; // what a driver hands over
 
 // Words of link memory to lend for a cell count; 0: no such count.
-#[unsafe(no_mangle)]
-pub extern "C" fn gufhrandi_link_words(cell_count: u32) -> u64
+pub fn gufhrandi_link_words(cell_count: u32) -> u64
     ensures { result ≡ link_words_for cell_count }
 {
     layout::lengths::link_words(cell_count)
 }
 
-#[unsafe(no_mangle)]
-pub extern "C" fn gufhrandi_fresh(cells: &[u8], links: &mut [u32], addresses: &mut [u64]) -> Answer
+pub fn gufhrandi_fresh(cells: &[u8], links: &mut [u32], addresses: &mut [u64]) -> Answer
     ensures { (result, (cells.now, links.new, addresses.new))
         ≡ fresh_call cells.now links.old addresses.old }
 {
     fresh_call::fresh(cells, links, addresses)
 }
 
-#[unsafe(no_mangle)]
-pub extern "C" fn gufhrandi_frame_in(
+pub fn gufhrandi_frame_in(
     cells: &mut [u8],
     links: &mut [u32],
     addresses: &mut [u64],
@@ -50,35 +47,26 @@ pub extern "C" fn gufhrandi_frame_in(
     frame_in::frame_in(cells, links, addresses, port, frame)
 }
 
-#[unsafe(no_mangle)]
-pub extern "C" fn gufhrandi_take(
-    cells: &[u8],
-    links: &mut [u32],
-    port: u32,
-    out: &mut [u8],
-) -> Answer
+pub fn gufhrandi_take(cells: &[u8], links: &mut [u32], port: u32, out: &mut [u8]) -> Answer
     ensures { (result, (links.new, out.new))
         ≡ take_call cells.now links.old port out.old }
 {
     take_out::take_into(cells, links, port, out)
 }
 
-#[unsafe(no_mangle)]
-pub extern "C" fn gufhrandi_age(addresses: &mut [u64]) -> Answer
+pub fn gufhrandi_age(addresses: &mut [u64]) -> Answer
     ensures { (result, addresses.new) ≡ age_call addresses.old }
 {
     address_calls::age(addresses)
 }
 
-#[unsafe(no_mangle)]
-pub extern "C" fn gufhrandi_counter(links: &[u32], port: u32, number: u32) -> Answer
+pub fn gufhrandi_counter(links: &[u32], port: u32, number: u32) -> Answer
     ensures { (result, links.now) ≡ counter_call links.now port number }
 {
     setting_calls::counter::counter(links, port, number)
 }
 
-#[unsafe(no_mangle)]
-pub extern "C" fn gufhrandi_port(
+pub fn gufhrandi_port(
     links: &mut [u32],
     port: u32,
     state: u32,
@@ -138,8 +126,7 @@ pub extern "C" fn gufhrandi_port(
     )
 }
 
-#[unsafe(no_mangle)]
-pub extern "C" fn gufhrandi_vlan(
+pub fn gufhrandi_vlan(
     links: &mut [u32],
     vid: u32,
     members: u32,
@@ -163,8 +150,7 @@ pub extern "C" fn gufhrandi_vlan(
             vid_source = vid_source;
             pcp_source = pcp_source;
             vid = op_vid;
-            pcp =
-                op_pcp;
+            pcp = op_pcp;
             dei = op_dei;
           };
         }) }
@@ -188,60 +174,43 @@ pub extern "C" fn gufhrandi_vlan(
     )
 }
 
-#[unsafe(no_mangle)]
-pub extern "C" fn gufhrandi_clear_vlan(links: &mut [u32], vid: u32) -> Answer
+pub fn gufhrandi_clear_vlan(links: &mut [u32], vid: u32) -> Answer
     ensures { (result, links.new) ≡ clear_vlan_call links.old vid }
 {
     setting_calls::vlan::clear_vlan(links, vid)
 }
 
-#[unsafe(no_mangle)]
-pub extern "C" fn gufhrandi_set_static(
-    addresses: &mut [u64],
-    gid: u32,
-    port: u32,
-    address: u64,
-) -> Answer
+pub fn gufhrandi_set_static(addresses: &mut [u64], gid: u32, port: u32, address: u64) -> Answer
     ensures { (result, addresses.new) ≡ static_call addresses.old gid port address }
 {
     address_calls::set_static(addresses, gid, port, address)
 }
 
-#[unsafe(no_mangle)]
-pub extern "C" fn gufhrandi_remove(addresses: &mut [u64], gid: u32, address: u64) -> Answer
+pub fn gufhrandi_remove(addresses: &mut [u64], gid: u32, address: u64) -> Answer
     ensures { (result, addresses.new) ≡ remove_call addresses.old gid address }
 {
     address_calls::remove(addresses, gid, address)
 }
 
-#[unsafe(no_mangle)]
-pub extern "C" fn gufhrandi_map(links: &mut [u32], pcp: u32, queue: u32) -> Answer
+pub fn gufhrandi_map(links: &mut [u32], pcp: u32, queue: u32) -> Answer
     ensures { (result, links.new) ≡ map_call links.old pcp queue }
 {
     setting_calls::queue::map(links, pcp, queue)
 }
 
-#[unsafe(no_mangle)]
-pub extern "C" fn gufhrandi_queue_switch(
-    links: &mut [u32],
-    port: u32,
-    queue: u32,
-    on: u32,
-) -> Answer
+pub fn gufhrandi_queue_switch(links: &mut [u32], port: u32, queue: u32, on: u32) -> Answer
     ensures { (result, links.new) ≡ queue_switch_call links.old port queue on }
 {
     setting_calls::queue::queue_switch(links, port, queue, on)
 }
 
-#[unsafe(no_mangle)]
-pub extern "C" fn gufhrandi_drain(links: &mut [u32], port: u32) -> Answer
+pub fn gufhrandi_drain(links: &mut [u32], port: u32) -> Answer
     ensures { (result, links.new) ≡ drain_call links.old port }
 {
     take_out::drain(links, port)
 }
 
-#[unsafe(no_mangle)]
-pub extern "C" fn gufhrandi_bpdu(links: &mut [u32], on: u32) -> Answer
+pub fn gufhrandi_bpdu(links: &mut [u32], on: u32) -> Answer
     ensures { (result, links.new) ≡ bpdu_call links.old on }
 {
     setting_calls::bpdu::bpdu(links, on)

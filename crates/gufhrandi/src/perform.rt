@@ -1,5 +1,5 @@
-// Any call of a driver, by the C function of its name. Its promise is `run`: so what a history runs is what the C
-// functions promise.
+// Any call of a driver, by the function of its name. Its promise is `run`: so what a history runs is what these functions
+// promise, and the C functions of crate gufhrandi_c with them.
 ghost use Rattle.std.specs.Prelude.{◌≡◌, [], length};
 ghost use Rattle.settings.specs.Ports.{port_is, vlan_is};
 ghost use Rattle.fresh_call.specs.Calls.{fresh_call};

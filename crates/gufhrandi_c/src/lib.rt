@@ -1,0 +1,210 @@
+// The C interface, which include/gufhrandi.h declares: each function is the one of its name in crate gufhrandi, and
+// promises the same. C hands over a slice as a pointer and a length.
+#![tactic(auto)]
+
+ghost use Rattle.std.specs.Prelude.{◌≡◌};
+ghost use Rattle.layout.specs.Lengths.{link_words_for};
+ghost use Rattle.fresh_call.specs.Calls.{fresh_call};
+ghost use Rattle.frame_in.specs.Call.{frame_in_call};
+ghost use Rattle.take_out.specs.Take.{take_call};
+ghost use Rattle.take_out.specs.Drain.{drain_call};
+ghost use Rattle.address_calls.specs.Calls.{age_call, static_call, remove_call};
+ghost use Rattle.setting_calls.specs.Calls.{counter_call, port_call, map_call, queue_switch_call, bpdu_call};
+ghost use Rattle.setting_calls.specs.Vlans.{vlan_call, clear_vlan_call};
+
+use layout::answers::Answer;
+
+// Words of link memory to lend for a cell count; 0: no such count.
+#[unsafe(no_mangle)]
+pub extern "C" fn gufhrandi_link_words(cell_count: u32) -> u64
+    ensures { result ≡ link_words_for cell_count }
+{
+    gufhrandi::gufhrandi_link_words(cell_count)
+}
+
+#[unsafe(no_mangle)]
+pub extern "C" fn gufhrandi_fresh(cells: &[u8], links: &mut [u32], addresses: &mut [u64]) -> Answer
+    ensures { (result, (cells.now, links.new, addresses.new))
+        ≡ fresh_call cells.now links.old addresses.old }
+{
+    gufhrandi::gufhrandi_fresh(cells, links, addresses)
+}
+
+#[unsafe(no_mangle)]
+pub extern "C" fn gufhrandi_frame_in(
+    cells: &mut [u8],
+    links: &mut [u32],
+    addresses: &mut [u64],
+    port: u32,
+    frame: &[u8],
+) -> Answer
+    ensures { (result, (cells.new, links.new, addresses.new))
+        ≡ frame_in_call cells.old links.old addresses.old port frame.now }
+{
+    gufhrandi::gufhrandi_frame_in(cells, links, addresses, port, frame)
+}
+
+#[unsafe(no_mangle)]
+pub extern "C" fn gufhrandi_take(
+    cells: &[u8],
+    links: &mut [u32],
+    port: u32,
+    out: &mut [u8],
+) -> Answer
+    ensures { (result, (links.new, out.new))
+        ≡ take_call cells.now links.old port out.old }
+{
+    gufhrandi::gufhrandi_take(cells, links, port, out)
+}
+
+#[unsafe(no_mangle)]
+pub extern "C" fn gufhrandi_age(addresses: &mut [u64]) -> Answer
+    ensures { (result, addresses.new) ≡ age_call addresses.old }
+{
+    gufhrandi::gufhrandi_age(addresses)
+}
+
+#[unsafe(no_mangle)]
+pub extern "C" fn gufhrandi_counter(links: &[u32], port: u32, number: u32) -> Answer
+    ensures { (result, links.now) ≡ counter_call links.now port number }
+{
+    gufhrandi::gufhrandi_counter(links, port, number)
+}
+
+#[unsafe(no_mangle)]
+pub extern "C" fn gufhrandi_port(
+    links: &mut [u32],
+    port: u32,
+    state: u32,
+    assignment: u32,
+    vid: u32,
+    pcp: u32,
+    dei: u32,
+    flags: u32,
+    kind: u32,
+    tag_type: u32,
+    vid_source: u32,
+    pcp_source: u32,
+    op_vid: u32,
+    op_pcp: u32,
+    op_dei: u32,
+) -> Answer
+    ensures { (result, links.new)
+        ≡ port_call links.old port
+        (record {
+          state = state;
+          assignment = assignment;
+          vid = vid;
+          pcp = pcp;
+          dei = dei;
+          flags = flags;
+          operation = record {
+            kind = kind;
+            type = tag_type;
+            vid_source = vid_source;
+            pcp_source = pcp_source;
+            vid = op_vid;
+            pcp = op_pcp;
+            dei = op_dei;
+          };
+        }) }
+{
+    gufhrandi::gufhrandi_port(
+        links, port, state, assignment, vid, pcp, dei, flags, kind, tag_type, vid_source,
+        pcp_source, op_vid, op_pcp, op_dei,
+    )
+}
+
+#[unsafe(no_mangle)]
+pub extern "C" fn gufhrandi_vlan(
+    links: &mut [u32],
+    vid: u32,
+    members: u32,
+    gid: u32,
+    kind: u32,
+    tag_type: u32,
+    vid_source: u32,
+    pcp_source: u32,
+    op_vid: u32,
+    op_pcp: u32,
+    op_dei: u32,
+) -> Answer
+    ensures { (result, links.new)
+        ≡ vlan_call links.old (record {
+          vid = vid;
+          members = members;
+          gid = gid;
+          operation = record {
+            kind = kind;
+            type = tag_type;
+            vid_source = vid_source;
+            pcp_source = pcp_source;
+            vid = op_vid;
+            pcp = op_pcp;
+            dei = op_dei;
+          };
+        }) }
+{
+    gufhrandi::gufhrandi_vlan(
+        links, vid, members, gid, kind, tag_type, vid_source, pcp_source, op_vid, op_pcp, op_dei,
+    )
+}
+
+#[unsafe(no_mangle)]
+pub extern "C" fn gufhrandi_clear_vlan(links: &mut [u32], vid: u32) -> Answer
+    ensures { (result, links.new) ≡ clear_vlan_call links.old vid }
+{
+    gufhrandi::gufhrandi_clear_vlan(links, vid)
+}
+
+#[unsafe(no_mangle)]
+pub extern "C" fn gufhrandi_set_static(
+    addresses: &mut [u64],
+    gid: u32,
+    port: u32,
+    address: u64,
+) -> Answer
+    ensures { (result, addresses.new) ≡ static_call addresses.old gid port address }
+{
+    gufhrandi::gufhrandi_set_static(addresses, gid, port, address)
+}
+
+#[unsafe(no_mangle)]
+pub extern "C" fn gufhrandi_remove(addresses: &mut [u64], gid: u32, address: u64) -> Answer
+    ensures { (result, addresses.new) ≡ remove_call addresses.old gid address }
+{
+    gufhrandi::gufhrandi_remove(addresses, gid, address)
+}
+
+#[unsafe(no_mangle)]
+pub extern "C" fn gufhrandi_map(links: &mut [u32], pcp: u32, queue: u32) -> Answer
+    ensures { (result, links.new) ≡ map_call links.old pcp queue }
+{
+    gufhrandi::gufhrandi_map(links, pcp, queue)
+}
+
+#[unsafe(no_mangle)]
+pub extern "C" fn gufhrandi_queue_switch(
+    links: &mut [u32],
+    port: u32,
+    queue: u32,
+    on: u32,
+) -> Answer
+    ensures { (result, links.new) ≡ queue_switch_call links.old port queue on }
+{
+    gufhrandi::gufhrandi_queue_switch(links, port, queue, on)
+}
+
+#[unsafe(no_mangle)]
+pub extern "C" fn gufhrandi_drain(links: &mut [u32], port: u32) -> Answer
+    ensures { (result, links.new) ≡ drain_call links.old port }
+{
+    gufhrandi::gufhrandi_drain(links, port)
+}
+
+#[unsafe(no_mangle)]
+pub extern "C" fn gufhrandi_bpdu(links: &mut [u32], on: u32) -> Answer
+    ensures { (result, links.new) ≡ bpdu_call links.old on }
+{
+    gufhrandi::gufhrandi_bpdu(links, on)
+}
