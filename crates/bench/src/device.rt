@@ -1,8 +1,36 @@
-// Reading and writing bytes: the one module that rests on the kit.
+// Reading and writing bytes: the one module that calls a reader and a writer.
 ghost use Rattle.std.specs.Prelude.{◌≡◌, ◌+◌, ◌-◌, ◌<◌, ◌≤◌, length, take};
 ghost use Rattle.bench.specs.Transfers.{outcome_of, Fits};
 
-use libc::{STDIN_FILENO, STDOUT_FILENO};
+use crate::failure::Failure;
+use std::io;
+use std::io::{ErrorKind, Read, Write};
+use std::thread::yield_now;
+
+// What the run reads from and writes to.
+#[derive(Drop)]
+pub struct Device<R, W> {
+    reader: R,
+    writer: W,
+    // What the last call failed by, if any did.
+    failure: Option<Failure>,
+}
+
+impl<R, W> Device<R, W> {
+    pub fn new(reader: R, writer: W) -> Device<R, W> {
+        Device {
+            reader,
+            writer,
+            failure: None,
+        }
+    }
+
+    pub fn failure(&self) -> Option<Failure>
+        ensures { result ≡ self.now.failure }
+    {
+        self.failure
+    }
+}
 
 // What came of one read or one write.
 #[derive(Clone, Copy)]
@@ -46,8 +74,8 @@ impl Sent {
 }
 
 // The errors after which a call is tried again: a signal came first, or nothing can be moved now.
-fn is_passing(error: i32) -> bool {
-    error == libc::EINTR || error == libc::EAGAIN
+fn is_passing(error: ErrorKind) -> bool {
+    error == ErrorKind::Interrupted || error == ErrorKind::WouldBlock
 }
 
 // `got` is what the call answered, `n` how many bytes that is, `passing` whether its error passes.
@@ -67,39 +95,37 @@ fn outcome(got: isize, n: usize, passing: bool) -> Transfer
 }
 
 // One read into the buffer from place `from` on.
-fn read_once(input: &mut [u8], from: usize) -> Transfer
+fn read_once<R: Read, W>(device: &mut Device<R, W>, input: &mut [u8], from: usize) -> Transfer
     requires { from < length input.old }
     ensures { Fits result (length input.old - from)
         × (take from input.new ≡ take from input.old) }
 {
     let part = &mut input[from..];
-    let got = libc::read(STDIN_FILENO, part);
-    let n = io::count(got, part);
-    outcome(got, n, is_passing(os::errno()))
+    match device.reader.read(part) {
+        Ok(n) => outcome(n as isize, n, false),
+        Err(error) => {
+            device.failure = Some(Failure::Reading(error));
+            outcome(-1, 0, is_passing(error.kind()))
+        }
+    }
 }
 
 // Reads into the buffer from place `from` on: bytes, nothing at the end of the input, or a failure, which is told.
-pub fn receive(input: &mut [u8], from: usize) -> Received
+pub fn receive<R: Read, W>(device: &mut Device<R, W>, input: &mut [u8], from: usize) -> Received
     requires { from < length input.old }
     ensures { Fits result.what (length input.old - from)
         × (take from input.new ≡ take from input.old) }
 {
-    let mut turns = u64::MAX;
-    while turns > 0 {
-        let came = read_once(input, from);
+    for _ in 0..u64::MAX {
+        let came = read_once(device, input, from);
         match came {
             Transfer::Again => {
-                libc::sched_yield();
-            }
-            Transfer::Failed => {
-                os::fail(b"bench: reading");
-                return Received { what: came };
+                yield_now();
             }
             _ => {
                 return Received { what: came };
             }
         }
-        turns -= 1;
     }
     Received {
         what: Transfer::Failed,
@@ -107,49 +133,55 @@ pub fn receive(input: &mut [u8], from: usize) -> Received
 }
 
 // One write of the text's places `from` to `to`.
-fn write_once(text: &[u8], from: usize, to: usize) -> Transfer
+fn write_once<R, W: Write>(
+    device: &mut Device<R, W>,
+    text: &[u8],
+    from: usize,
+    to: usize,
+) -> Transfer
     requires { (from ≤ to) × (to ≤ length text.now) }
     ensures { Fits result (to - from) }
 {
     let part = &text[from..to];
-    let got = libc::write(STDOUT_FILENO, part);
-    let n = io::count(got, part);
-    outcome(got, n, is_passing(os::errno()))
+    match device.writer.write(part) {
+        Ok(n) => outcome(n as isize, n, false),
+        Err(error) => {
+            device.failure = Some(Failure::Writing(error));
+            outcome(-1, 0, is_passing(error.kind()))
+        }
+    }
 }
 
 // Writes of the text's places `from` to `to`, and answers how many bytes were written: none if writing failed, which is told.
-fn write_some(text: &[u8], from: usize, to: usize) -> usize
+fn write_some<R, W: Write>(device: &mut Device<R, W>, text: &[u8], from: usize, to: usize) -> usize
     requires { (from ≤ to) × (to ≤ length text.now) }
     ensures { from + result ≤ to }
 {
-    let mut turns = u64::MAX;
-    while turns > 0 {
-        let put = write_once(text, from, to);
+    for _ in 0..u64::MAX {
+        let put = write_once(device, text, from, to);
         match put {
             Transfer::Bytes(n) => {
                 return n;
             }
             Transfer::Again => {
-                libc::sched_yield();
+                yield_now();
             }
             _ => {
-                os::fail(b"bench: writing");
                 return 0;
             }
         }
-        turns -= 1;
     }
     0
 }
 
 // Writes the first bytes of the text, and answers how many were written: all of them, unless writing failed.
-pub fn send(text: &[u8], used: usize) -> Sent
+pub fn send<R, W: Write>(device: &mut Device<R, W>, text: &[u8], used: usize) -> Sent
     requires { used ≤ length text.now }
     ensures { result.bytes ≤ used }
 {
     let mut done = 0;
     while done < used {
-        let put = write_some(text, done, used);
+        let put = write_some(device, text, done, used);
         if put == 0 {
             return Sent { bytes: done };
         }

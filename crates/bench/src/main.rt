@@ -3,12 +3,17 @@
 
 mod calls;
 mod device;
+mod failure;
 mod input;
 mod lines;
 mod progress;
 mod run;
 
-fn main() {
+use device::Device;
+use std::process::ExitCode;
+
+fn main(rt: HostRuntime) -> ExitCode {
+    let mut device = Device::new(rt.stdin(), rt.stdout());
     let mut cells = [0u8; 16000];
     let mut links = [0u32; 5024];
     let mut addresses = [0u64; 4112];
@@ -16,7 +21,8 @@ fn main() {
     let mut input = [0u8; 131072];
     let mut text = [0u8; 65536];
     gufhrandi::perform::begin(&cells, &mut links, &mut addresses);
-    run::run(
+    let p = run::run(
+        &mut device,
         &mut cells,
         &mut links,
         &mut addresses,
@@ -24,4 +30,11 @@ fn main() {
         &mut input,
         &mut text,
     );
+    if !p.failed {
+        return ExitCode::SUCCESS;
+    }
+    if let Some(failure) = device.failure() {
+        let _ = eprintln!(rt; "{failure}");
+    }
+    ExitCode::FAILURE
 }

@@ -9,10 +9,12 @@ ghost use Rattle.bench.specs.SessionTheorems.{Fresh};
 ghost use Rattle.bench.specs.Played.{Steps, Played};
 
 use crate::calls::answer_to;
+use crate::device::Device;
 use crate::input::refill;
 use crate::lines::{flush, put_line};
 use crate::progress::Progress;
 use records::Next;
+use std::io::{Read, Write};
 
 // The run ends.
 fn stopped(p: Progress) -> Progress
@@ -87,20 +89,26 @@ fn carry_out(
 }
 
 // More of the input is needed. The lines are written first, so that whoever hands over a record sees its line.
-fn go_on(input: &mut [u8], text: &[u8], p: Progress) -> Progress
+fn go_on<R: Read, W: Write>(
+    device: &mut Device<R, W>,
+    input: &mut [u8],
+    text: &[u8],
+    p: Progress,
+) -> Progress
     requires { Steady p (length input.old) (length text.now) × (65537 ≤ length input.old)
         × (next_at input.old p ≡ More) }
     ensures went_on { WentOn p input.old input.new result }
     ensures steady { Steady result (length input.old) (length text.now) }
 {
     if 0 < p.used {
-        return flush(text, p);
+        return flush(device, text, p);
     }
-    refill(input, p)
+    refill(device, input, p)
 }
 
 // One action: lines are written, more is read, the run ends, or a record is carried out.
-fn step(
+fn step<R: Read, W: Write>(
+    device: &mut Device<R, W>,
     cells: &mut [u8],
     links: &mut [u32],
     addresses: &mut [u64],
@@ -118,13 +126,13 @@ fn step(
     ensures steady { Steady result (length input.old) (length text.old) }
 {
     if text.len() - p.used < 64 {
-        return flush(text, p);
+        return flush(device, text, p);
     }
     let at = p.at;
     let end = p.end;
     let next = records::next_in(&input[at..end], p.ended);
     match next {
-        Next::More => go_on(input, text, p),
+        Next::More => go_on(device, input, text, p),
         Next::Finished => stopped(p),
         Next::Cut => cut(text, p),
         Next::Whole(long) => carry_out(cells, links, addresses, out, input, text, p, long),
@@ -141,7 +149,8 @@ fn goes_on(turns: u64, p: Progress) -> bool
 }
 
 // The whole run, on a fresh switch.
-pub fn run(
+pub fn run<R: Read, W: Write>(
+    device: &mut Device<R, W>,
     cells: &mut [u8],
     links: &mut [u32],
     addresses: &mut [u64],
@@ -167,8 +176,8 @@ pub fn run(
     };
     let mut turns = u64::MAX;
     while goes_on(turns, p) {
-        p = step(cells, links, addresses, out, input, text, p);
+        p = step(device, cells, links, addresses, out, input, text, p);
         turns -= 1;
     }
-    flush(text, p)
+    flush(device, text, p)
 }
