@@ -1,8 +1,10 @@
--- What a read or a write moved lies in what it was lent. Assumes nothing.
-use Rattle.std.proofs.Common.{◌≡◌, ℕ, ◌<◌, ◌≤◌, Bool, true, false, ltb, ℤ, pos, negsuc, sym, subst, arith, ltb-true, le-ltb, lt-ltb, leb-false}
+-- What a read or a write moved, and that it lies in what it was lent. Assumes nothing.
+use Rattle.std.proofs.Common.{◌≡◌, ℕ, ◌-◌, ◌<◌, ◌≤◌, Bool, true, false, ltb, ℤ, pos, negsuc, List, [], ◌++◌, length, take, drop, sym, refl, ap, ◌∙◌, subst, arith, ltb-true, ltb-false, le-ltb, lt-ltb, leb-false, length-take}
+use Rattle.std.proofs.Math.Seq.{drop-append_seam}
+use Rattle.std.proofs.lemmas.List.{take-append-le}
 use lib.Signed.{le_z}
 use Rattle.rules.proofs.Choice.{on}
-use Rattle.bench.specs.Transfers.{moved_nothing, outcome_of, Fits}
+use Rattle.bench.specs.Transfers.{moved_nothing, outcome_of, Fits, moved_of}
 use Rattle.bench.specs.declared.device.Transfer.{Transfer}
 use Rattle.bench.specs.declared.device.Transfer.TheVariants.{Bytes, Nothing, Again, Failed}
 
@@ -45,3 +47,46 @@ moved_fits t got moved room passing e h =
 
 pub came_fits : (t : Transfer) (n room : ℕ) → t ≡ Bytes n → Fits t room → (1 ≤ n) × (n ≤ room)
 came_fits t n room e f = subst (λ (q : Transfer). Fits q room) e f
+
+-- ---- which bytes were moved
+
+none_moved : (got : ℤ) (passing : Bool) (part : List ℕ) → moved_of (moved_nothing got passing) part ≡ []
+unfolding moved_nothing
+none_moved (pos k) passing part = refl
+none_moved (negsuc k) true part = refl
+none_moved (negsuc k) false part = refl
+
+module _ (t : Transfer) (got : ℤ) (n : ℕ) (passing : Bool) (e : t ≡ outcome_of got n passing) where
+  pub first_moved : (part : List ℕ) → moved_of t part ≡ take n part
+  unfolding outcome_of
+  first_moved part =
+      ap (λ (q : Transfer). moved_of q part) e
+      ∙ on (ltb 0 n)
+        (λ some. rw some refl)
+        (λ none. let z : n ≡ 0 = omega (arith, ltb-false 0 n none) in rw (none, none_moved got passing part, z))
+
+  -- only a call that moved nothing has met the end
+  pub none_at_the_end : t ≡ Nothing → n ≡ 0
+  unfolding outcome_of
+  none_at_the_end end =
+      on (ltb 0 n)
+      (λ some. absurd (let z : Bytes n ≡ Nothing = sym (rw some at e) ∙ end in cc))
+      (λ none. omega (arith, ltb-false 0 n none))
+
+-- a call that answered below 0 has not met the end
+pub failed_is_no_end : (t : Transfer) (k : ℕ) (passing : Bool) → t ≡ outcome_of (negsuc k) 0 passing → t ≡ Nothing → ⊥
+unfolding outcome_of moved_nothing
+failed_is_no_end t k true e end = let z : Again ≡ Nothing = sym e ∙ end in cc
+failed_is_no_end t k false e end = let z : Failed ≡ Nothing = sym e ∙ end in cc
+
+-- the bytes that came stand in the buffer, behind its front
+pub first_of_part : (front part rest : List ℕ) (from n : ℕ) → length front ≡ from → n ≤ length part
+    → take n (drop from (front ++ (part ++ rest))) ≡ take n part
+first_of_part front part rest from n h g =
+    ap (λ (k : ℕ). take n (drop k (front ++ (part ++ rest)))) (sym h)
+    ∙ ap (take n) (drop-append_seam front (part ++ rest))
+    ∙ take-append-le n part rest g
+
+-- what a part of the text holds at most
+pub part_long : (text : List ℕ) (from to n : ℕ) → n ≤ length (take (to - from) (drop from text)) → n ≤ to - from
+part_long text from to n h = omega (arith, h, length-take (to - from) (drop from text))

@@ -1,5 +1,5 @@
 -- What came of one read or one write. Assumes nothing: these are definitions.
-use Rattle.std.specs.Prelude.{ℕ, ◌≤◌, Bool, ℤ, pos, negsuc, nat_lt, if◌then◌else◌}
+use Rattle.std.specs.Prelude.{ℕ, ◌≤◌, Bool, ℤ, pos, negsuc, nat_lt, List, [], take, if◌then◌else◌}
 use Rattle.bench.specs.declared.device.Transfer.{Transfer}
 use Rattle.bench.specs.declared.device.Transfer.TheVariants.{Bytes, Nothing, Again, Failed}
 
@@ -18,3 +18,10 @@ Fits (Bytes n) room = (1 ≤ n) × (n ≤ room)
 Fits Nothing room = Unit {0}
 Fits Again room = Unit {0}
 Fits Failed room = Unit {0}
+
+-- of `part`, the bytes that were moved: its first ones
+abbrev pub moved_of : Transfer → List ℕ → List ℕ
+moved_of (Bytes n) part = take n part
+moved_of Nothing part = []
+moved_of Again part = []
+moved_of Failed part = []

@@ -1,34 +1,58 @@
-// Reading and writing bytes: the one module that calls a reader and a writer.
-ghost use Rattle.std.specs.Prelude.{◌≡◌, ◌+◌, ◌-◌, ◌<◌, ◌≤◌, length, take};
-ghost use Rattle.bench.specs.Transfers.{outcome_of, Fits};
+// Reading and writing bytes: the one module that calls the reader and the writer.
+ghost use Rattle.std.specs.Prelude.{◌≡◌, ◌+◌, ◌-◌, ◌<◌, ◌≤◌, length, take, drop};
+ghost use Rattle.std.specs.Io.KnownBytes.{Consumes, Appends, IsAtEnd};
+ghost use Rattle.bench.specs.Transfers.{outcome_of, Fits, moved_of};
 
-use crate::failure::Failure;
-use std::io;
-use std::io::{ErrorKind, Read, Write};
+use std::io::{Error, ErrorKind, Read, Write};
 use std::thread::yield_now;
 
-// What the run reads from and writes to.
+// What the run reads from.
 #[derive(Drop)]
-pub struct Device<R, W> {
+pub struct Source<R> {
     reader: R,
-    writer: W,
-    // What the last call failed by, if any did.
-    failure: Option<Failure>,
+    // Why reading failed, if it did.
+    error: Option<Error>,
 }
 
-impl<R, W> Device<R, W> {
-    pub fn new(reader: R, writer: W) -> Device<R, W> {
-        Device {
+impl<R> Source<R> {
+    pub fn new(reader: R) -> Source<R>
+        ensures { result ≡ record { reader = reader; error = None } }
+    {
+        Source {
             reader,
-            writer,
-            failure: None,
+            error: None,
         }
     }
 
-    pub fn failure(&self) -> Option<Failure>
-        ensures { result ≡ self.now.failure }
+    pub fn error(&self) -> Option<Error>
+        ensures { result ≡ self.now.error }
     {
-        self.failure
+        self.error
+    }
+}
+
+// What the run writes to.
+#[derive(Drop)]
+pub struct Sink<W> {
+    writer: W,
+    // Why writing failed, if it did.
+    error: Option<Error>,
+}
+
+impl<W> Sink<W> {
+    pub fn new(writer: W) -> Sink<W>
+        ensures { result ≡ record { writer = writer; error = None } }
+    {
+        Sink {
+            writer,
+            error: None,
+        }
+    }
+
+    pub fn error(&self) -> Option<Error>
+        ensures { result ≡ self.now.error }
+    {
+        self.error
     }
 }
 
@@ -78,6 +102,11 @@ fn is_passing(error: ErrorKind) -> bool {
     error == ErrorKind::Interrupted || error == ErrorKind::WouldBlock
 }
 
+// The error that ends the run: none where the call is tried again.
+fn to_tell(error: Error, passing: bool) -> Option<Error> {
+    if passing { None } else { Some(error) }
+}
+
 // `got` is what the call answered, `n` how many bytes that is, `passing` whether its error passes.
 fn outcome(got: isize, n: usize, passing: bool) -> Transfer
     ensures { result ≡ outcome_of got n passing }
@@ -95,29 +124,36 @@ fn outcome(got: isize, n: usize, passing: bool) -> Transfer
 }
 
 // One read into the buffer from place `from` on.
-fn read_once<R: Read, W>(device: &mut Device<R, W>, input: &mut [u8], from: usize) -> Transfer
+fn read_once<R: Read>(source: &mut Source<R>, input: &mut [u8], from: usize) -> Transfer
     requires { from < length input.old }
-    ensures { Fits result (length input.old - from)
+    ensures fits { Fits result (length input.old - from)
         × (take from input.new ≡ take from input.old) }
+    ensures bytes { Consumes (R.remaining source.old.reader) (R.remaining source.new.reader)
+        (moved_of result (drop from input.new)) }
+    ensures end { result ≡ Transfer.Nothing → IsAtEnd (R.remaining source.new.reader) }
 {
-    let part = &mut input[from..];
-    match device.reader.read(part) {
+    match source.reader.read(&mut input[from..]) {
         Ok(n) => outcome(n as isize, n, false),
         Err(error) => {
-            device.failure = Some(Failure::Reading(error));
-            outcome(-1, 0, is_passing(error.kind()))
+            let passing = is_passing(error.kind());
+            source.error = to_tell(error, passing);
+            outcome(-1, 0, passing)
         }
     }
 }
 
-// Reads into the buffer from place `from` on: bytes, nothing at the end of the input, or a failure, which is told.
-pub fn receive<R: Read, W>(device: &mut Device<R, W>, input: &mut [u8], from: usize) -> Received
+// Reads into the buffer from place `from` on: bytes, nothing at the end of the input, or a failure, which the source
+// keeps to be told.
+pub fn receive<R: Read>(source: &mut Source<R>, input: &mut [u8], from: usize) -> Received
     requires { from < length input.old }
-    ensures { Fits result.what (length input.old - from)
+    ensures fits { Fits result.what (length input.old - from)
         × (take from input.new ≡ take from input.old) }
+    ensures bytes { Consumes (R.remaining source.old.reader) (R.remaining source.new.reader)
+        (moved_of result.what (drop from input.new)) }
+    ensures end { result.what ≡ Transfer.Nothing → IsAtEnd (R.remaining source.new.reader) }
 {
-    for _ in 0..u64::MAX {
-        let came = read_once(device, input, from);
+    for _turn in 0..u64::MAX {
+        let came = read_once(source, input, from);
         match came {
             Transfer::Again => {
                 yield_now();
@@ -133,32 +169,32 @@ pub fn receive<R: Read, W>(device: &mut Device<R, W>, input: &mut [u8], from: us
 }
 
 // One write of the text's places `from` to `to`.
-fn write_once<R, W: Write>(
-    device: &mut Device<R, W>,
-    text: &[u8],
-    from: usize,
-    to: usize,
-) -> Transfer
+fn write_once<W: Write>(sink: &mut Sink<W>, text: &[u8], from: usize, to: usize) -> Transfer
     requires { (from ≤ to) × (to ≤ length text.now) }
-    ensures { Fits result (to - from) }
+    ensures fits { Fits result (to - from) }
+    ensures bytes { Appends (W.contents sink.old.writer) (W.contents sink.new.writer)
+        (moved_of result (drop from text.now)) }
 {
-    let part = &text[from..to];
-    match device.writer.write(part) {
+    match sink.writer.write(&text[from..to]) {
         Ok(n) => outcome(n as isize, n, false),
         Err(error) => {
-            device.failure = Some(Failure::Writing(error));
-            outcome(-1, 0, is_passing(error.kind()))
+            let passing = is_passing(error.kind());
+            sink.error = to_tell(error, passing);
+            outcome(-1, 0, passing)
         }
     }
 }
 
-// Writes of the text's places `from` to `to`, and answers how many bytes were written: none if writing failed, which is told.
-fn write_some<R, W: Write>(device: &mut Device<R, W>, text: &[u8], from: usize, to: usize) -> usize
+// Writes of the text's places `from` to `to`, and answers how many bytes were written: none if writing failed, which
+// the sink keeps to be told.
+fn write_some<W: Write>(sink: &mut Sink<W>, text: &[u8], from: usize, to: usize) -> usize
     requires { (from ≤ to) × (to ≤ length text.now) }
-    ensures { from + result ≤ to }
+    ensures fits { from + result ≤ to }
+    ensures bytes { Appends (W.contents sink.old.writer) (W.contents sink.new.writer)
+        (take result (drop from text.now)) }
 {
-    for _ in 0..u64::MAX {
-        let put = write_once(device, text, from, to);
+    for _turn in 0..u64::MAX {
+        let put = write_once(sink, text, from, to);
         match put {
             Transfer::Bytes(n) => {
                 return n;
@@ -166,7 +202,11 @@ fn write_some<R, W: Write>(device: &mut Device<R, W>, text: &[u8], from: usize, 
             Transfer::Again => {
                 yield_now();
             }
-            _ => {
+            Transfer::Nothing => {
+                sink.error = Some(Error::from(ErrorKind::WriteZero));
+                return 0;
+            }
+            Transfer::Failed => {
                 return 0;
             }
         }
@@ -175,13 +215,15 @@ fn write_some<R, W: Write>(device: &mut Device<R, W>, text: &[u8], from: usize, 
 }
 
 // Writes the first bytes of the text, and answers how many were written: all of them, unless writing failed.
-pub fn send<R, W: Write>(device: &mut Device<R, W>, text: &[u8], used: usize) -> Sent
+pub fn send<W: Write>(sink: &mut Sink<W>, text: &[u8], used: usize) -> Sent
     requires { used ≤ length text.now }
-    ensures { result.bytes ≤ used }
+    ensures fits { result.bytes ≤ used }
+    ensures bytes { Appends (W.contents sink.old.writer) (W.contents sink.new.writer)
+        (take result.bytes text.now) }
 {
     let mut done = 0;
     while done < used {
-        let put = write_some(device, text, done, used);
+        let put = write_some(sink, text, done, used);
         if put == 0 {
             return Sent { bytes: done };
         }

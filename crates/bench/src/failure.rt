@@ -1,30 +1,24 @@
-// A read or a write that failed, and the line that tells of it.
+// What is said of a failed read or write.
 use arrayvec::ArrayString;
 use std::fmt::Write;
-use std::{fmt, io};
+use std::io::Error;
 
-#[derive(Clone, Copy)]
-pub enum Failure {
-    Reading(io::Error),
-    Writing(io::Error),
-}
-
-impl fmt::Display for Failure {
-    fn fmt<W: fmt::Write>(&self, f: &mut fmt::Formatter<W>) -> fmt::Result {
-        match *self {
-            Failure::Reading(error) => write!(f, "bench: reading: {}", what(error)),
-            Failure::Writing(error) => write!(f, "bench: writing: {}", what(error)),
-        }
-    }
-}
-
-// What failed, in the system's words alone: without the error's number, which the library puts behind them.
-fn what(error: io::Error) -> ArrayString<128> {
+// In the system's words alone: without the error's number, which the library puts behind them.
+fn words_of(error: Error) -> ArrayString<128> {
     let mut all = ArrayString::new();
     // A longer text is cut short.
     let _ = write!(all, "{error}");
     match all.as_str().split_once(" (os error ") {
         Some((words, _)) => ArrayString::from(words).unwrap_or(all),
         None => all,
+    }
+}
+
+// A line on standard error, if there was an error.
+pub fn tell(rt: &impl Eprint, what: &str, error: Option<Error>) {
+    if let Some(error) = error {
+        let words = words_of(error);
+        // Where nothing can be written there, the exit status tells alone.
+        let _ = eprintln!(rt; "bench: {what}: {words}");
     }
 }

@@ -2,18 +2,18 @@
 ghost use Rattle.std.specs.Prelude.{◌≡◌, ◌+◌, ◌≤◌, length};
 ghost use Rattle.bench.specs.Progressing.{Flushed, lined};
 
-use crate::device::{Device, send};
+use crate::device::{Sink, send};
 use crate::progress::Progress;
 use layout::answers::Answer;
 use std::io::Write;
 use std::num::wrapping_add_u64;
 
 // Writes the lines that wait. Where that fails the run ends: a line behind a gap would tell of another record.
-pub fn flush<R, W: Write>(device: &mut Device<R, W>, text: &[u8], p: Progress) -> Progress
+pub fn flush<W: Write>(sink: &mut Sink<W>, text: &[u8], p: Progress) -> Progress
     requires { p.used ≤ length text.now }
     ensures { Flushed p result }
 {
-    let sent = send(device, text, p.used);
+    let sent = send(sink, text, p.used);
     let done = sent.count();
     let whole = done == p.used;
     Progress {

@@ -9,11 +9,13 @@ mod lines;
 mod progress;
 mod run;
 
-use device::Device;
+use device::{Sink, Source};
+use failure::tell;
 use std::process::ExitCode;
 
 fn main(rt: HostRuntime) -> ExitCode {
-    let mut device = Device::new(rt.stdin(), rt.stdout());
+    let mut source = Source::new(rt.stdin());
+    let mut sink = Sink::new(rt.stdout());
     let mut cells = [0u8; 16000];
     let mut links = [0u32; 5024];
     let mut addresses = [0u64; 4112];
@@ -22,7 +24,8 @@ fn main(rt: HostRuntime) -> ExitCode {
     let mut text = [0u8; 65536];
     gufhrandi::perform::begin(&cells, &mut links, &mut addresses);
     let p = run::run(
-        &mut device,
+        &mut source,
+        &mut sink,
         &mut cells,
         &mut links,
         &mut addresses,
@@ -30,11 +33,11 @@ fn main(rt: HostRuntime) -> ExitCode {
         &mut input,
         &mut text,
     );
-    if !p.failed {
-        return ExitCode::SUCCESS;
+    tell(&rt, "reading", source.error());
+    tell(&rt, "writing", sink.error());
+    if p.failed {
+        ExitCode::FAILURE
+    } else {
+        ExitCode::SUCCESS
     }
-    if let Some(failure) = device.failure() {
-        let _ = eprintln!(rt; "{failure}");
-    }
-    ExitCode::FAILURE
 }

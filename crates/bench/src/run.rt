@@ -9,7 +9,7 @@ ghost use Rattle.bench.specs.SessionTheorems.{Fresh};
 ghost use Rattle.bench.specs.Played.{Steps, Played};
 
 use crate::calls::answer_to;
-use crate::device::Device;
+use crate::device::{Sink, Source};
 use crate::input::refill;
 use crate::lines::{flush, put_line};
 use crate::progress::Progress;
@@ -90,7 +90,8 @@ fn carry_out(
 
 // More of the input is needed. The lines are written first, so that whoever hands over a record sees its line.
 fn go_on<R: Read, W: Write>(
-    device: &mut Device<R, W>,
+    source: &mut Source<R>,
+    sink: &mut Sink<W>,
     input: &mut [u8],
     text: &[u8],
     p: Progress,
@@ -101,14 +102,15 @@ fn go_on<R: Read, W: Write>(
     ensures steady { Steady result (length input.old) (length text.now) }
 {
     if 0 < p.used {
-        return flush(device, text, p);
+        return flush(sink, text, p);
     }
-    refill(device, input, p)
+    refill(source, input, p)
 }
 
 // One action: lines are written, more is read, the run ends, or a record is carried out.
 fn step<R: Read, W: Write>(
-    device: &mut Device<R, W>,
+    source: &mut Source<R>,
+    sink: &mut Sink<W>,
     cells: &mut [u8],
     links: &mut [u32],
     addresses: &mut [u64],
@@ -126,13 +128,13 @@ fn step<R: Read, W: Write>(
     ensures steady { Steady result (length input.old) (length text.old) }
 {
     if text.len() - p.used < 64 {
-        return flush(device, text, p);
+        return flush(sink, text, p);
     }
     let at = p.at;
     let end = p.end;
     let next = records::next_in(&input[at..end], p.ended);
     match next {
-        Next::More => go_on(device, input, text, p),
+        Next::More => go_on(source, sink, input, text, p),
         Next::Finished => stopped(p),
         Next::Cut => cut(text, p),
         Next::Whole(long) => carry_out(cells, links, addresses, out, input, text, p, long),
@@ -150,7 +152,8 @@ fn goes_on(turns: u64, p: Progress) -> bool
 
 // The whole run, on a fresh switch.
 pub fn run<R: Read, W: Write>(
-    device: &mut Device<R, W>,
+    source: &mut Source<R>,
+    sink: &mut Sink<W>,
     cells: &mut [u8],
     links: &mut [u32],
     addresses: &mut [u64],
@@ -176,8 +179,8 @@ pub fn run<R: Read, W: Write>(
     };
     let mut turns = u64::MAX;
     while goes_on(turns, p) {
-        p = step(device, cells, links, addresses, out, input, text, p);
+        p = step(source, sink, cells, links, addresses, out, input, text, p);
         turns -= 1;
     }
-    flush(device, text, p)
+    flush(sink, text, p)
 }

@@ -1,7 +1,44 @@
--- `bench::device::read_once` meets its contract: what is read lies in the part that was lent.
-use Rattle.std.proofs.Common.{◌-◌, length, take, length-take-le, take_at, rules}
-use Rattle.bench.proofs.Transferring.{moved_fits}
+-- What is read lies in the part that was lent, and is what the reader gave.
+use Rattle.std.proofs.Common.{◌-◌, length, take, sym, ◌∙◌, [], subst, arith, length-take-le, take_at}
+use Rattle.std.specs.Io.KnownBytes.{Consumes}
+use Rattle.std.proofs.KnownBytes.{Consumes-nil, Consumes-kept}
+use Rattle.bench.proofs.Transferring.{moved_fits, first_moved, none_at_the_end, failed_is_no_end, first_of_part}
 use Rattle.bench.proofs.device.read_once.Goals as goal
 
-pub returns : goal.returns
-returns c = let a = c.args in (moved_fits c.outcome.result _ c.count-n.result (length a.input.now - a.from) c.is_passing.result c.outcome.ensures (search rules), take_at (take a.from a.input.now) _ a.from (length-take-le a.from a.input.now (search rules)))
+pub returns-in-Ok-clause-fits : goal.returns-in-Ok-clause-fits
+returns-in-Ok-clause-fits g c =
+    let a = c.args in
+    (
+      moved_fits _ _ c.in-Ok.n (length a.input.now - a.from) _ c.outcome.ensures
+      (omega (arith, c.in-Ok.ensures.bound, c.read.auto.buf)),
+      take_at (take a.from a.input.now) _ a.from (length-take-le a.from a.input.now (omega (arith, c.requires))),
+    )
+
+pub returns-in-Ok-clause-bytes : goal.returns-in-Ok-clause-bytes
+returns-in-Ok-clause-bytes g c =
+    let a = c.args in
+    let front = length-take-le a.from a.input.now (omega (arith, c.requires)) in
+    subst (Consumes _ _)
+    (sym (first_moved _ _ _ _ c.outcome.ensures _
+    ∙ first_of_part (take a.from a.input.now) c.read.new.buf _ a.from c.in-Ok.n front c.in-Ok.ensures.bound.0))
+    c.in-Ok.ensures.bytes.0
+
+pub returns-in-Ok-clause-end : goal.returns-in-Ok-clause-end
+returns-in-Ok-clause-end g c =
+    λ end. c.in-Ok.ensures.bytes.1 (none_at_the_end _ _ _ _ c.outcome.ensures end) (omega (arith, c.requires, c.read.auto.buf))
+
+pub returns-in-Err-clause-fits : goal.returns-in-Err-clause-fits
+returns-in-Err-clause-fits g c =
+    let a = c.args in
+    (
+      moved_fits _ _ 0 (length a.input.now - a.from) _ c.outcome-in-Err.ensures (omega arith),
+      take_at (take a.from a.input.now) _ a.from (length-take-le a.from a.input.now (omega (arith, c.requires))),
+    )
+
+pub returns-in-Err-clause-bytes : goal.returns-in-Err-clause-bytes
+returns-in-Err-clause-bytes g c =
+    subst (Consumes _ _) (sym (first_moved _ _ _ _ c.outcome-in-Err.ensures _))
+    (Consumes-kept _ _ _ [] (Consumes-nil _) c.in-Err.ensures.bytes)
+
+pub returns-in-Err-clause-end : goal.returns-in-Err-clause-end
+returns-in-Err-clause-end g c = λ end. absurd (failed_is_no_end _ _ _ c.outcome-in-Err.ensures end)

@@ -1,9 +1,12 @@
--- `bench::device::receive` meets its contract: each turn is a read of its own.
-use Rattle.std.proofs.Common.{◌≡◌, ◌<◌, length, take, refl, ◌∙◌, arith, rules}
+-- A read that is tried again has brought nothing.
+use Rattle.std.proofs.Common.{◌≡◌, [], length, take}
+use Rattle.std.specs.Io.KnownBytes.{Consumes}
 use Rattle.bench.proofs.device.receive.Given as goal
 
-abbrev pub invariant-loop-turns : goal.invariant-loop-turns
-invariant-loop-turns l = (length l.turns ≡ length l.initial.input) × (take l.from l.turns ≡ take l.from l.initial.input) × (l.from < length l.initial.input)
-
-abbrev pub decreases-loop-turns : goal.decreases-loop-turns
-decreases-loop-turns l = turns
+abbrev pub invariant-loop-turn : goal.invariant-loop-turn
+invariant-loop-turn g l =
+    record {
+      long : length l.input ≡ length l.initial.input;
+      front : take l.from l.input ≡ take l.from l.initial.input;
+      none_lost : Consumes (g.R.Read.remaining l.initial.source.reader) (g.R.Read.remaining l.source.reader) [];
+    }

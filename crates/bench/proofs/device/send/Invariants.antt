@@ -1,9 +1,14 @@
--- `bench::device::send` meets its contract.
-use Rattle.std.proofs.Common.{◌-◌, ◌≤◌, length, arith, rules}
+-- So many bytes are written so far.
+use Rattle.std.proofs.Common.{◌-◌, ◌≤◌, take}
+use Rattle.std.specs.Io.KnownBytes.{Appends}
 use Rattle.bench.proofs.device.send.Given as goal
 
 abbrev pub invariant-loop-done : goal.invariant-loop-done
-invariant-loop-done l = (l.done ≤ l.used) × (l.used ≤ length l.text)
+invariant-loop-done g l =
+    record {
+      within : l.done ≤ l.used;
+      written : Appends (g.W.Write.contents l.initial.sink.writer) (g.W.Write.contents l.sink.writer) (take l.done l.text);
+    }
 
 abbrev pub decreases-loop-done : goal.decreases-loop-done
-decreases-loop-done l = l.used - l.done
+decreases-loop-done g l = l.used - l.done

@@ -1,7 +1,25 @@
--- `bench::device::write_once` meets its contract.
-use Rattle.std.proofs.Common.{◌-◌, rules}
-use Rattle.bench.proofs.Transferring.{moved_fits}
+-- What is written is the front of the part that was lent.
+use Rattle.std.proofs.Common.{◌-◌, [], drop, sym, ◌∙◌, subst, arith, take-take}
+use Rattle.std.specs.Io.KnownBytes.{Appends}
+use Rattle.std.proofs.KnownBytes.{Appends-nil, Appends-kept}
+use Rattle.bench.proofs.Transferring.{moved_fits, first_moved, part_long}
 use Rattle.bench.proofs.device.write_once.Goals as goal
 
-pub returns : goal.returns
-returns c = moved_fits c.outcome.result _ c.count-n.result (c.args.to - c.args.from) c.is_passing.result c.outcome.ensures (search rules)
+pub returns-in-Ok-clause-fits : goal.returns-in-Ok-clause-fits
+returns-in-Ok-clause-fits g c =
+    moved_fits _ _ c.in-Ok.n (c.args.to - c.args.from) _ c.outcome.ensures (part_long c.args.text.now c.args.from c.args.to c.in-Ok.n c.in-Ok.ensures.bound)
+
+pub returns-in-Ok-clause-bytes : goal.returns-in-Ok-clause-bytes
+returns-in-Ok-clause-bytes g c =
+    let a = c.args in
+    let fits = part_long a.text.now a.from a.to c.in-Ok.n c.in-Ok.ensures.bound in
+    subst (Appends _ _) (take-take c.in-Ok.n (a.to - a.from) (drop a.from a.text.now) fits ∙ sym (first_moved _ _ _ _ c.outcome.ensures _))
+    c.in-Ok.ensures.bytes
+
+pub returns-in-Err-clause-fits : goal.returns-in-Err-clause-fits
+returns-in-Err-clause-fits g c = moved_fits _ _ 0 (c.args.to - c.args.from) _ c.outcome-in-Err.ensures (omega arith)
+
+pub returns-in-Err-clause-bytes : goal.returns-in-Err-clause-bytes
+returns-in-Err-clause-bytes g c =
+    subst (Appends _ _) (sym (first_moved _ _ _ _ c.outcome-in-Err.ensures _))
+    (Appends-kept _ _ _ [] (Appends-nil _) c.in-Err.ensures.bytes)

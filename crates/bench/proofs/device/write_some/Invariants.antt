@@ -1,10 +1,7 @@
--- `bench::device::write_some` meets its contract.
-use Rattle.std.proofs.Common.{◌≤◌, length, arith, rules}
-use Rattle.bench.proofs.Transferring.{came_fits}
+-- A write that is tried again has written nothing.
+use Rattle.std.proofs.Common.{[]}
+use Rattle.std.specs.Io.KnownBytes.{Appends}
 use Rattle.bench.proofs.device.write_some.Given as goal
 
-abbrev pub invariant-loop-turns : goal.invariant-loop-turns
-invariant-loop-turns l = (l.from ≤ l.to) × (l.to ≤ length l.text)
-
-abbrev pub decreases-loop-turns : goal.decreases-loop-turns
-decreases-loop-turns l = turns
+abbrev pub invariant-loop-turn : goal.invariant-loop-turn
+invariant-loop-turn g l = Appends (g.W.Write.contents l.initial.sink.writer) (g.W.Write.contents l.sink.writer) []
