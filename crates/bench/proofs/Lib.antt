@@ -2,6 +2,7 @@ pub mod Transferring
 pub mod Taking
 pub mod Reading
 pub mod Lining
+pub mod Outside
 pub mod Acting
 pub mod Carrying
 pub mod Inputs

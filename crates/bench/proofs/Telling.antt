@@ -47,8 +47,7 @@ record Sound (s : Session) : Type 0 where
 record Broken (s : Session) : Type 0 where
   stopped : s.on ≡ false
   none_waits : s.lines ≡ []
-  rest : List ℕ
-  told : Told (fresh bench_cells) 0 s.came (s.handed ++ rest)
+  told : (more : List ℕ) → (s.ended ≡ true → more ≡ []) → (rest : List ℕ) × Told (fresh bench_cells) 0 (s.came ++ more) (s.handed ++ rest)
 
 data Holds (s : Session) : Type 0 where
   sound : s.failed ≡ false → Sound s → Holds s
@@ -58,11 +57,11 @@ onward_always : (on : Bool) (state : State) (n : ℕ) (bytes : List ℕ) → (ta
 onward_always true state n bytes = told_always state n bytes
 onward_always false state n bytes = ([], refl)
 
--- what is told if the input ends here
-told_now : (s : Session) → Sound s → (tail : List ℕ) × Told (fresh bench_cells) 0 s.came (s.handed ++ (s.lines ++ tail))
-told_now s h =
-    let onward = onward_always s.on h.state s.number (s.waiting ++ []) in
-    (onward.0, rw (append-nil s.came) at (h.tells [] onward.0 (λ e. refl) onward.1))
+-- what is told if the input ends behind what is still to come
+told_then : (s : Session) → Sound s → (more : List ℕ) → (s.ended ≡ true → more ≡ [])
+    → (tail : List ℕ) × Told (fresh bench_cells) 0 (s.came ++ more) (s.handed ++ (s.lines ++ tail))
+told_then s h more none =
+    let onward = onward_always s.on h.state s.number (s.waiting ++ more) in (onward.0, h.tells more onward.0 none onward.1)
 
 -- an action of a run that goes on: nothing failed
 going : (s : Session) {C : Type 0} → s.on ≡ true → Holds s → (s.failed ≡ false → Sound s → C) → C
@@ -93,14 +92,16 @@ module _ (s : Session) (n : ℕ) where
   write_some : eqb n (length s.lines) ≡ false → s.failed ≡ false → Sound s → Holds (acted (write n) s)
   unfolding acted
   write_some e f h =
-      let now = told_now s h in
       rw (e, f)
       (broken refl
       (record {
         stopped = and_false s.on;
         none_waits = refl;
-        rest = drop n s.lines ++ now.0;
-        told = subst (λ (lines : List ℕ). Told (fresh bench_cells) 0 s.came lines) (split now.0) now.1;
+        told = λ more none.
+            let then = told_then s h more none in (
+              drop n s.lines ++ then.0,
+              subst (λ (lines : List ℕ). Told (fresh bench_cells) 0 (s.came ++ more) lines) (split then.0) then.1,
+            );
       }))
     where
       split : (tail : List ℕ) → s.handed ++ (s.lines ++ tail) ≡ (s.handed ++ take n s.lines) ++ (drop n s.lines ++ tail)
@@ -113,7 +114,6 @@ module _ (s : Session) (n : ℕ) where
       (record {
         stopped = rw h.stopped refl;
         none_waits = refl;
-        rest = h.rest;
         told = rw (h.none_waits, take-nil n, append-nil s.handed) h.told;
       })
 
@@ -151,7 +151,12 @@ module _ (s : Session) (may : MayRead s) (f : s.failed ≡ false) (h : Sound s) 
   unread_holds : Holds (acted unread s)
   unfolding acted
   unread_holds =
-      let now = told_now s h in broken refl (record { stopped = refl; none_waits = may.2; rest = s.lines ++ now.0; told = now.1 })
+      broken refl
+      (record {
+        stopped = refl;
+        none_waits = may.2;
+        told = λ more none. let then = told_then s h more none in (s.lines ++ then.0, then.1);
+      })
 
 -- ---- what comes next
 
@@ -236,17 +241,25 @@ ran_holds m f (acts {s} a ran may) = acted_holds a s may (ran_holds m f ran)
 
 -- ---- the theorems
 
-holds_front : (s : Session) → Holds s → (rest : List ℕ) × Told (fresh bench_cells) 0 s.came (s.handed ++ rest)
-holds_front s (sound f h) = let now = told_now s h in (s.lines ++ now.0, now.1)
-holds_front s (broken f h) = (h.rest, h.told)
+module _ (s : Session) (more : List ℕ) (none : s.ended ≡ true → more ≡ []) where
+  holds_front : Holds s → (rest : List ℕ) × Told (fresh bench_cells) 0 (s.came ++ more) (s.handed ++ rest)
+  holds_front (sound f h) = let then = told_then s h more none in (s.lines ++ then.0, then.1)
+  holds_front (broken f h) = h.told more none
 
-holds_whole : (s : Session) → Holds s → s.on ≡ false → s.failed ≡ false → s.lines ≡ [] → Told (fresh bench_cells) 0 s.came s.handed
-holds_whole s (sound f h) over well none =
-    let nothing : Onward s.on h.state s.number (s.waiting ++ []) [] = subst (λ (on : Bool). Onward on h.state s.number (s.waiting ++ []) []) (sym over) refl in
-    simp (none, append-nil) at (h.tells [] [] (λ e. refl) nothing)
-holds_whole s (broken f h) over well none = absurd (let z : ◌≡◌ {A = ℕ} 0 1 = cc in omega arith)
+  holds_whole : Holds s → s.on ≡ false → s.failed ≡ false → s.lines ≡ [] → Told (fresh bench_cells) 0 (s.came ++ more) s.handed
+  holds_whole (sound f h) over well no_line =
+      let nothing : Onward s.on h.state s.number (s.waiting ++ more) [] = subst (λ (on : Bool). Onward on h.state s.number (s.waiting ++ more) []) (sym over) refl in
+      simp (no_line, append-nil) at (h.tells more [] none nothing)
+  holds_whole (broken f h) over well no_line = absurd (let z : ◌≡◌ {A = ℕ} 0 1 = cc in omega arith)
 
 pub session_theorems : (m : Memories) (f : Fresh m) (k : ℕ) (s : Session) (ran : Ran (beginning m) k s) → SessionTheorems m f k s ran
 session_theorems m f k s ran =
     let holds = ran_holds m f ran in
-    record { front = holds_front s holds; whole = holds_whole s holds; one = λ bytes lines others. told_one }
+    let none : s.ended ≡ true → ◌≡◌ {A = List ℕ} [] [] = λ e. refl in
+    record {
+      front = rw (append-nil s.came) at (holds_front s [] none holds);
+      whole = λ over well no_line. rw (append-nil s.came) at (holds_whole s [] none holds over well no_line);
+      front_of_all = λ more none. holds_front s more none holds;
+      whole_of_all = λ over well no_line more none. holds_whole s more none holds over well no_line;
+      one = λ bytes lines others. told_one;
+    }

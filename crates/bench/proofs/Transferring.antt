@@ -62,8 +62,8 @@ module _ (t : Transfer) (got : ℤ) (n : ℕ) (passing : Bool) (e : t ≡ outcom
   first_moved part =
       ap (λ (q : Transfer). moved_of q part) e
       ∙ on (ltb 0 n)
-        (λ some. rw some refl)
-        (λ none. let z : n ≡ 0 = omega (arith, ltb-false 0 n none) in rw (none, none_moved got passing part, z))
+      (λ some. rw some refl)
+      (λ none. let z : n ≡ 0 = omega (arith, ltb-false 0 n none) in rw (none, none_moved got passing part, z))
 
   -- only a call that moved nothing has met the end
   pub none_at_the_end : t ≡ Nothing → n ≡ 0
@@ -72,6 +72,12 @@ module _ (t : Transfer) (got : ℤ) (n : ℕ) (passing : Bool) (e : t ≡ outcom
       on (ltb 0 n)
       (λ some. absurd (let z : Bytes n ≡ Nothing = sym (rw some at e) ∙ end in cc))
       (λ none. omega (arith, ltb-false 0 n none))
+
+pub none_otherwise : (t : Transfer) (part : List ℕ) → ((n : ℕ) → t ≡ Bytes n → ⊥) → moved_of t part ≡ []
+none_otherwise (Bytes n) part never = absurd (never n refl)
+none_otherwise Nothing part never = refl
+none_otherwise Again part never = refl
+none_otherwise Failed part never = refl
 
 -- a call that answered below 0 has not met the end
 pub failed_is_no_end : (t : Transfer) (k : ℕ) (passing : Bool) → t ≡ outcome_of (negsuc k) 0 passing → t ≡ Nothing → ⊥

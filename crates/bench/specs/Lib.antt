@@ -1,4 +1,5 @@
 pub mod Transfers
+pub mod Outside
 pub mod Steady
 pub mod Carried
 pub mod Progressing

@@ -1,6 +1,7 @@
 -- What each function of the run makes of the progress, of the input and of the text. Assumes nothing: these are
 -- definitions.
-use Rattle.std.specs.Prelude.{◌≡◌, ℕ, ◌+◌, ◌-◌, ◌%◌, ◌^◌, ◌≤◌, Bool, true, false, not, ◌&&◌, ◌||◌, List, length, take, drop, ◌==◌}
+use Rattle.std.specs.Prelude.{◌≡◌, ℕ, ◌+◌, ◌-◌, ◌%◌, ◌^◌, ◌≤◌, Bool, true, false, not, ◌&&◌, ◌||◌, List, [], length, take, drop, ◌==◌, Option}
+use Rattle.std.specs.Io.KnownBytes.{Consumes, Appends, IsAtEnd}
 use Rattle.std.proofs.lemmas.List.Edits.{sets}
 use Rattle.rules.specs.Tags.{Bytes}
 use Rattle.rules.specs.Refusals.{bad_record}
@@ -14,6 +15,7 @@ use Rattle.records.specs.declared.framing.Next.{Next}
 use Rattle.gufhrandi.specs.Memories.{Memories}
 use Rattle.bench.specs.declared.progress.Progress.{Progress}
 use Rattle.bench.specs.Carried.{carried_out}
+use Rattle.bench.specs.Outside.{Outside}
 
 -- "record number from 1": no run reaches the number that goes to 0
 abbrev pub number_after : ℕ → ℕ
@@ -44,14 +46,15 @@ after_read p end ended on failed =
       failed = failed;
     }
 
--- one of three: bytes came, there are no more, or reading failed
-pub data Refilled (p : Progress) (before after : List ℕ) : Progress → Type 0 where
+-- one of three: bytes came, there are no more, or reading failed; `left`, `rest`: what the reader had left and has left
+pub data Refilled (p : Progress) (before after : List ℕ) (left rest : Option (List ℕ)) : Progress → Type 0 where
   came : (n : ℕ) → 1 ≤ n → p.end - p.at + n ≤ length before → take (p.end - p.at) after ≡ left_in before p
-      → Bytes after → Refilled p before after (after_read p (p.end - p.at + n) p.ended p.on p.failed)
-  no_more : take (p.end - p.at) after ≡ left_in before p
-      → Refilled p before after (after_read p (p.end - p.at) true p.on p.failed)
-  unread : take (p.end - p.at) after ≡ left_in before p
-      → Refilled p before after (after_read p (p.end - p.at) p.ended false true)
+      → Bytes after → Consumes left rest (take n (drop (p.end - p.at) after))
+      → Refilled p before after left rest (after_read p (p.end - p.at + n) p.ended p.on p.failed)
+  no_more : take (p.end - p.at) after ≡ left_in before p → Consumes left rest [] → IsAtEnd rest
+      → Refilled p before after left rest (after_read p (p.end - p.at) true p.on p.failed)
+  unread : take (p.end - p.at) after ≡ left_in before p → Consumes left rest []
+      → Refilled p before after left rest (after_read p (p.end - p.at) p.ended false true)
 
 -- ---- the lines
 
@@ -69,15 +72,18 @@ flushed_by n p =
       failed = p.failed || not (n == p.used);
     }
 
-pub record Flushed (p r : Progress) : Type 0 where
+-- `held`, `after`: what the writer held and holds
+pub record Flushed (p r : Progress) (text : List ℕ) (held after : Option (List ℕ)) : Type 0 where
   pub written : ℕ
   pub enough : written ≤ p.used
   pub is : r ≡ flushed_by written p
+  pub appended : Appends held after (take written text)
 
 -- lines that wait are written before more is read
-pub data WentOn (p : Progress) (before after : List ℕ) (r : Progress) : Type 0 where
-  wrote : after ≡ before → Flushed p r → WentOn p before after r
-  read : p.used ≡ 0 → Refilled p before after r → WentOn p before after r
+pub data WentOn (p : Progress) (before after text : List ℕ) (was now : Outside) (r : Progress) : Type 0 where
+  wrote : after ≡ before → now.left ≡ was.left → Flushed p r text was.held now.held → WentOn p before after text was now r
+  read : p.used ≡ 0 → now.held ≡ was.held → Refilled p before after was.left now.left r
+      → WentOn p before after text was now r
 
 abbrev pub line_after : Progress → ℕ → Answer → List ℕ
 line_after p kind answer = line_of (number_after p.number) kind answer

@@ -25,6 +25,11 @@ pub record SessionTheorems (m : Memories) (fresh_switch_law : Fresh m) (k : ℕ)
   pub front : (rest : List ℕ) × Told (fresh bench_cells) 0 s.came (s.handed ++ rest)
   -- It is all of them when the run has ended, nothing failed and no line waits.
   pub whole : s.on ≡ false → s.failed ≡ false → s.lines ≡ [] → Told (fresh bench_cells) 0 s.came s.handed
+  -- The same of all the input, also of what was not read: `more` is any that is still to come.
+  pub front_of_all : (more : List ℕ) → (s.ended ≡ true → more ≡ [])
+      → (rest : List ℕ) × Told (fresh bench_cells) 0 (s.came ++ more) (s.handed ++ rest)
+  pub whole_of_all : s.on ≡ false → s.failed ≡ false → s.lines ≡ [] → (more : List ℕ) → (s.ended ≡ true → more ≡ [])
+      → Told (fresh bench_cells) 0 (s.came ++ more) s.handed
   -- One input has one list of lines.
   pub one : (bytes lines others : List ℕ) → Told (fresh bench_cells) 0 bytes lines → Told (fresh bench_cells) 0 bytes others
       → lines ≡ others

@@ -155,6 +155,25 @@ acted cut s =
     }
 acted (play long out) s = played s long out (record_in s.waiting long)
 
+-- what an action read, and what it wrote
+abbrev pub read_by : Action → List ℕ
+read_by (write n) = []
+read_by (bring bytes) = bytes
+read_by no_more = []
+read_by unread = []
+read_by finish = []
+read_by cut = []
+read_by (play long out) = []
+
+abbrev pub written_by : Action → Session → List ℕ
+written_by (write n) s = take n s.lines
+written_by (bring bytes) s = []
+written_by no_more s = []
+written_by unread s = []
+written_by finish s = []
+written_by cut s = []
+written_by (play long out) s = []
+
 -- Reading waits until the next record is not known and every line is written: whoever hands over a record sees its line.
 abbrev pub MayRead : Session → Type 0
 MayRead s = (s.on ≡ true) × (next_of s.waiting s.ended ≡ More) × (s.lines ≡ [])

@@ -13,7 +13,8 @@ use std::io::Read;
 pub fn refill<R: Read>(source: &mut Source<R>, input: &mut [u8], p: Progress) -> Progress
     requires { (p.at ≤ p.end) × (p.end ≤ length input.old) × (65537 ≤ length input.old)
         × (next_at input.old p ≡ More) }
-    ensures { Refilled p input.old input.new result }
+    ensures { Refilled p input.old input.new (R.remaining source.old.reader)
+        (R.remaining source.new.reader) result }
 {
     let at = p.at;
     let end = p.end;

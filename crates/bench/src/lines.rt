@@ -11,7 +11,7 @@ use std::num::wrapping_add_u64;
 // Writes the lines that wait. Where that fails the run ends: a line behind a gap would tell of another record.
 pub fn flush<W: Write>(sink: &mut Sink<W>, text: &[u8], p: Progress) -> Progress
     requires { p.used ≤ length text.now }
-    ensures { Flushed p result }
+    ensures { Flushed p result text.now (W.contents sink.old.writer) (W.contents sink.new.writer) }
 {
     let sent = send(sink, text, p.used);
     let done = sent.count();

@@ -3,6 +3,7 @@ ghost use Rattle.std.specs.Prelude.{◌≡◌, ◌+◌, ◌≤◌, true, ◌&&�
 ghost use Rattle.rules.specs.Cells.{largest_result};
 ghost use Rattle.records.specs.declared.framing.Next.TheVariants.{More};
 ghost use Rattle.gufhrandi.specs.Asked.{memories};
+ghost use Rattle.bench.specs.Outside.{outside};
 ghost use Rattle.bench.specs.Steady.{Steady};
 ghost use Rattle.bench.specs.Progressing.{left_in, next_at, stopped_at, cut_at, passed_by, record_in, carried_at, WentOn};
 ghost use Rattle.bench.specs.SessionTheorems.{Fresh};
@@ -98,7 +99,9 @@ fn go_on<R: Read, W: Write>(
 ) -> Progress
     requires { Steady p (length input.old) (length text.now) × (65537 ≤ length input.old)
         × (next_at input.old p ≡ More) }
-    ensures went_on { WentOn p input.old input.new result }
+    ensures went_on { WentOn p input.old input.new text.now
+        (outside (R.remaining source.old.reader) (W.contents sink.old.writer))
+        (outside (R.remaining source.new.reader) (W.contents sink.new.writer)) result }
     ensures steady { Steady result (length input.old) (length text.now) }
 {
     if 0 < p.used {
@@ -122,9 +125,11 @@ fn step<R: Read, W: Write>(
     requires { Steady p (length input.old) (length text.old) × (64 ≤ length text.old)
         × (65537 ≤ length input.old) × (length out.old ≡ largest_result) }
     ensures steps { Steps p (memories cells.old links.old addresses.old)
-        input.old text.old result
+        input.old text.old
+        (outside (R.remaining source.old.reader) (W.contents sink.old.writer)) result
         (memories cells.new links.new addresses.new) input.new
-        text.new }
+        text.new
+        (outside (R.remaining source.new.reader) (W.contents sink.new.writer)) }
     ensures steady { Steady result (length input.old) (length text.old) }
 {
     if text.len() - p.used < 64 {
@@ -163,9 +168,11 @@ pub fn run<R: Read, W: Write>(
 ) -> Progress
     requires { Fresh (memories cells.old links.old addresses.old) × (64 ≤ length text.old)
         × (65537 ≤ length input.old) × (length out.old ≡ largest_result) }
-    ensures { Played (memories cells.old links.old addresses.old) result
+    ensures { Played (memories cells.old links.old addresses.old)
+        (outside (R.remaining source.old.reader) (W.contents sink.old.writer)) result
         (memories cells.new links.new addresses.new) input.new
-        text.new }
+        text.new
+        (outside (R.remaining source.new.reader) (W.contents sink.new.writer)) }
 {
     let mut p = Progress {
         at: 0,

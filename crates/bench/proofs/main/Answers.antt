@@ -1,4 +1,4 @@
--- `bench::main` starts the run on a fresh switch, with buffers that suffice.
+-- The run starts on a fresh switch, with buffers that suffice.
 use Rattle.std.proofs.Common.{ℕ, rules}
 use lib.ListN.{length-replicate}
 use Rattle.bench.proofs.Starting.{starts_fresh}

@@ -1,4 +1,4 @@
--- `bench::device::outcome` meets its contract.
+-- Case by case.
 use Rattle.std.proofs.Common.{arith, to_z-of_z}
 use Rattle.bench.proofs.Transferring.{bytes_moved, nothing_moved, tried_again, has_failed}
 use Rattle.bench.proofs.device.outcome.Goals as goal

@@ -7,10 +7,9 @@ use Rattle.bench.proofs.device.read_once.Goals as goal
 
 pub returns-in-Ok-clause-fits : goal.returns-in-Ok-clause-fits
 returns-in-Ok-clause-fits g c =
-    let a = c.args in
-    (
+    let a = c.args in (
       moved_fits _ _ c.in-Ok.n (length a.input.now - a.from) _ c.outcome.ensures
-      (omega (arith, c.in-Ok.ensures.bound, c.read.auto.buf)),
+          (omega (arith, c.in-Ok.ensures.bound, c.read.auto.buf)),
       take_at (take a.from a.input.now) _ a.from (length-take-le a.from a.input.now (omega (arith, c.requires))),
     )
 
@@ -29,8 +28,7 @@ returns-in-Ok-clause-end g c =
 
 pub returns-in-Err-clause-fits : goal.returns-in-Err-clause-fits
 returns-in-Err-clause-fits g c =
-    let a = c.args in
-    (
+    let a = c.args in (
       moved_fits _ _ 0 (length a.input.now - a.from) _ c.outcome-in-Err.ensures (omega arith),
       take_at (take a.from a.input.now) _ a.from (length-take-le a.from a.input.now (omega (arith, c.requires))),
     )

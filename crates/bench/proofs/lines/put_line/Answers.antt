@@ -1,4 +1,4 @@
--- `bench::lines::put_line` meets its contract: a line has at most 57 bytes.
+-- A line has at most 57 bytes.
 use Rattle.std.proofs.Common.{arith, rules}
 use Rattle.records.proofs.LineLaws.{written_place, line_length}
 use Rattle.bench.proofs.Lining.{line_put}
@@ -9,6 +9,6 @@ overflow_add-result c = omega (arith, c.requires, written_place _ _ _ _ c.line-l
 
 pub returns : goal.returns
 returns c = let a = c.args in record {
-  text_after = line_put a.text.now a.p c.wrapping_add_u64-number.result a.kind a.answer c.line-long.result c.line-long.new.0 (omega (arith, c.requires)) c.wrapping_add_u64-number.ensures c.line-long.ensures;
+  text_after = line_put a.text.now a.p c.wrapping_add_u64-number.result a.kind a.answer c.line-long.result c.line-long.new.out (omega (arith, c.requires)) c.wrapping_add_u64-number.ensures.value c.line-long.ensures;
   used_in_bounds = omega (arith, c.requires, written_place _ _ _ _ c.line-long.ensures, line_length c.wrapping_add_u64-number.result a.kind a.answer (omega arith) (omega arith) (omega arith) (omega arith) (omega arith));
 }

@@ -1,4 +1,4 @@
--- `bench::run::carry_out` meets its contract.
+-- The call that a record asks, and its line.
 use Rattle.std.proofs.Common.{length, sym, subst, arith, rules}
 use Rattle.bench.specs.declared.progress.Progress.{Progress}
 use Rattle.bench.specs.Steady.{Steady}

@@ -1,4 +1,4 @@
--- `bench::run::cut` meets its contract.
+-- A cut record's line has kind 0.
 use Rattle.std.proofs.Common.{◌≤◌, length, sym, subst, rules}
 use Rattle.bench.specs.declared.progress.Progress.{Progress}
 use Rattle.bench.proofs.Lining.{cut_put}

@@ -1,4 +1,4 @@
--- `bench::run::goes_on` meets its contract.
+-- A turn is left.
 use Rattle.std.proofs.Common.{refl, ltb-true}
 use Rattle.rules.proofs.Choice.{and_left}
 use Rattle.bench.proofs.run.goes_on.Goals as goal
