@@ -1,5 +1,5 @@
 -- What is written goes on where it stopped.
-use Rattle.std.proofs.Common.{◌+◌, take, drop, sym, subst, arith, take-add}
+use Rattle.std.proofs.Common.{take, drop, sym, subst, arith, take-add}
 use Rattle.std.specs.Io.KnownBytes.{Appends}
 use Rattle.std.proofs.KnownBytes.{Appends-trans}
 use Rattle.bench.proofs.device.send.Goals as goal

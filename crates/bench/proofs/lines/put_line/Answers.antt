@@ -1,5 +1,5 @@
 -- A line has at most 57 bytes.
-use Rattle.std.proofs.Common.{arith, rules}
+use Rattle.std.proofs.Common.{arith}
 use Rattle.records.proofs.LineLaws.{written_place, line_length}
 use Rattle.bench.proofs.Lining.{line_put}
 use Rattle.bench.proofs.lines.put_line.Goals as goal

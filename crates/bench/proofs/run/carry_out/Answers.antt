@@ -1,5 +1,5 @@
 -- The call that a record asks, and its line.
-use Rattle.std.proofs.Common.{length, sym, subst, arith, rules}
+use Rattle.std.proofs.Common.{length, sym, subst, arith}
 use Rattle.bench.specs.declared.progress.Progress.{Progress}
 use Rattle.bench.specs.Steady.{Steady}
 use Rattle.bench.proofs.Reading.{record_is}

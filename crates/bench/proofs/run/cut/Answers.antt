@@ -1,5 +1,5 @@
 -- A cut record's line has kind 0.
-use Rattle.std.proofs.Common.{◌≤◌, length, sym, subst, rules}
+use Rattle.std.proofs.Common.{◌≤◌, length, sym, subst}
 use Rattle.bench.specs.declared.progress.Progress.{Progress}
 use Rattle.bench.proofs.Lining.{cut_put}
 use Rattle.bench.proofs.run.cut.Goals as goal
