@@ -1,4 +1,4 @@
--- `gufhrandi::handed::is_bytes` meets its contract: each element that is read is a byte, and past the end `getD` gives 0.
+-- `gufhrandi::handed::is_bytes` meets its contract: each element that is read is a byte, and past the end `get_or` gives 0.
 use Prim.Native.Nat.{ℕ, ◌-◌, ◌≤◌, ◌<◌}
 use lib.ListN.{length, get_or}
 use Rattle.gufhrandi.proofs.handed.is_bytes.Given as goal

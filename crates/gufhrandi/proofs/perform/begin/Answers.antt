@@ -1,4 +1,4 @@
--- `gufhrandi::perform::begin` meets its contract: it is the fresh call of the C library.
+-- `gufhrandi::perform::begin` meets its contract: it is the fresh call of the library.
 use mathlib.Core.Path.{ap}
 use mathlib.Core.List.{[]}
 use Rattle.gufhrandi.specs.Runs.{on_all}

@@ -1,4 +1,4 @@
--- `gufhrandi::perform::on_addresses` meets its contract: each arm is the C function of its name.
+-- `gufhrandi::perform::on_addresses` meets its contract: each arm is the function of its name.
 use Rattle.gufhrandi.specs.Runs.{run}
 use Rattle.gufhrandi.specs.Asked.{address_asked, address_run}
 use Rattle.gufhrandi.proofs.perform.on_addresses.Goals as goal

@@ -1,4 +1,4 @@
--- `gufhrandi::perform::on_links` meets its contract: each arm is the C function of its name.
+-- `gufhrandi::perform::on_links` meets its contract: each arm is the function of its name.
 use Rattle.gufhrandi.specs.Runs.{run}
 use Rattle.gufhrandi.specs.Asked.{link_asked, link_run}
 use Rattle.gufhrandi.proofs.perform.on_links.Goals as goal
