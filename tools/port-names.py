@@ -4,7 +4,7 @@
     python3 tools/port-names.py        at the top of the repository
 
 A word is in snake case: storedBytes is stored_bytes, and bucket-below is bucket_below. Types, facts and modules keep their capitals. Where a
-lemma and a definition fall together in a file, the lemma ends in _lem. Names that Rattle makes (goals, steps of a function) keep their dashes.
+lemma and a definition fall together in a file, the lemma ends in _law. Names that Rattle makes (goals, steps of a function) keep their dashes.
 Comments are those of the commit LANDED, with the names in them turned alike. It turns specs/, proofs/, the clauses of src/, the must-fail edits
 and the names between backticks in the pages.
 """
@@ -118,7 +118,7 @@ def names():
     for word in found:
         new = snake(word)
         if "-" in word and (new in definitions or new in library):
-            new += "_lem"
+            new += "_law"
         mine[word] = new
     return mine
 
@@ -161,7 +161,7 @@ def main():
             at = 0
             for m in re.finditer(BOUND % re.escape(word), text):
                 out.append(text[at:m.start()])
-                out.append(word if KEPT_BEFORE.search(text[:m.start()][-40:]) else word + "_lem")
+                out.append(word if KEPT_BEFORE.search(text[:m.start()][-40:]) else word + "_law")
                 at = m.end()
             out.append(text[at:])
             with open(path, "w", encoding="utf-8") as file:
