@@ -5,7 +5,7 @@
 
 A word is in snake case: storedBytes is stored_bytes, and bucket-below is bucket_below. Types, facts and modules keep their capitals. Where a
 lemma and a definition fall together in a file, the lemma ends in _law. Names that Rattle makes (goals, steps of a function) keep their dashes.
-Comments are those of the commit LANDED, with the names in them turned alike. It turns specs/, proofs/, the clauses of src/, the must-fail edits
+Comments are those of the commit LANDED, with the names in them turned alike. It turns specs/, proofs/, the clauses of src/
 and the names between backticks in the pages.
 """
 import glob
