@@ -3,7 +3,7 @@ use Rattle.std.proofs.Common.{◌≡◌, ℕ, true, List, [], ◌∷◌, ◌++�
 use Rattle.std.proofs.lemmas.List.{append_cancel_left}
 use Rattle.std.specs.Io.KnownBytes.{Consumes, Appends, IsAtEnd}
 use Rattle.std.proofs.KnownBytes.{Consumes-nil, Consumes-trans, Consumes-whole, Appends-nil, Appends-trans}
-use Rattle.bench.specs.Outside.{Outside, Moved, IsAll}
+use Rattle.bench.specs.Outside.{Outside, Moved}
 use Rattle.bench.specs.Sessions.{Session, Action, write, bring, no_more, unread, finish, cut, play, acted, read_by, written_by}
 
 -- nothing is read and nothing written
@@ -41,6 +41,10 @@ moved_on a s was now then before step =
     }
 
 -- ---- the end of the input is met only when all of it was read
+
+-- these bytes are all that the reader had left
+abbrev pub IsAll : Option (List ℕ) → List ℕ → Type 0
+IsAll left came = IfSome left (λ bytes. bytes ≡ came)
 
 -- where all was read, no more is
 all_more : (was now : Option (List ℕ)) (came more : List ℕ) → IsAll was came → Consumes was now (came ++ more) → IsAll was (came ++ more)

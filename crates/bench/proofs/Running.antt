@@ -7,9 +7,9 @@ use Rattle.bench.specs.declared.progress.Progress.{Progress}
 use Rattle.bench.specs.Progressing.{flushed_by, Flushed}
 use Rattle.bench.specs.Sessions.{Session, acted, beginning, Ran, starts, acts}
 use Rattle.bench.specs.SessionTheorems.{bench_cells, Fresh}
-use Rattle.bench.specs.Outside.{Outside, outside, Moved, IsAll}
+use Rattle.bench.specs.Outside.{Outside, outside, Moved}
 use Rattle.bench.specs.Played.{session_of, Counted, Leads, Steps, Played}
-use Rattle.bench.proofs.Outside.{still, moved_on, all_on, of_all}
+use Rattle.bench.proofs.Outside.{still, moved_on, IsAll, all_on, of_all}
 use Rattle.bench.proofs.Acting.{flush_leads}
 use Rattle.bench.specs.Told.{Told}
 use Rattle.bench.proofs.Telling.{session_theorems}

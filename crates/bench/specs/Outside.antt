@@ -1,6 +1,6 @@
 -- What stands outside the run: the bytes that the reader has left and those that the writer holds. Where a reader or a
 -- writer does not say which these are, nothing is claimed of them. Assumes nothing: these are definitions.
-use Rattle.std.specs.Prelude.{◌≡◌, ℕ, List, Option, IfSome}
+use Rattle.std.specs.Prelude.{ℕ, List, Option}
 use Rattle.std.specs.Io.KnownBytes.{Consumes, Appends}
 
 pub record Outside : Type 0 where
@@ -14,7 +14,3 @@ outside left held = record { left = left; held = held }
 pub record Moved (before after : Outside) (bytes lines : List ℕ) : Type 0 where
   pub read : Consumes before.left after.left bytes
   pub wrote : Appends before.held after.held lines
-
--- these bytes are all that the reader had left
-abbrev pub IsAll : Option (List ℕ) → List ℕ → Type 0
-IsAll left came = IfSome left (λ bytes. bytes ≡ came)
