@@ -62,9 +62,9 @@ told_always s n bytes = told_within (suc (length bytes)) s n bytes (omega arith)
 
 -- ---- what is known of an input, whatever follows
 
-module _ (waiting more : List ℕ) (ended : Bool) (None-more : ended ≡ true → more ≡ []) where
+module _ (waiting more : List ℕ) (ended : Bool) (none_more : ended ≡ true → more ≡ []) where
   pub next_stays : (next : Next) → (next ≡ More → ⊥) → next_of waiting ended ≡ next → next_of (waiting ++ more) true ≡ next
-  next_stays next known e = stays ended None-more e
+  next_stays next known e = stays ended none_more e
     where
       stays : (over : Bool) → (over ≡ true → more ≡ []) → next_of waiting over ≡ next → next_of (waiting ++ more) true ≡ next
       stays true none g = rw (none refl, append-nil waiting) g

@@ -82,7 +82,7 @@ carried_zero s (bpdu b) = refl
 true_is_not_false : true ≡ false → ⊥
 true_is_not_false e = let z : ◌≡◌ {A = ℕ} 0 1 = cc in omega arith
 
-module _ (s : State) (c : Call) (r : ℕ) (foreign : (leb 2 r && leb r 9) ≡ false) (Some-number : 1 ≤ r) where
+module _ (s : State) (c : Call) (r : ℕ) (foreign : (leb 2 r && leb r 9) ≡ false) (some_number : 1 ≤ r) where
   pub never : (numbers_of (perform s c).answer).refusal ≡ r → ⊥
   unfolding perform unless_refused refusing numbers_of
   never =
