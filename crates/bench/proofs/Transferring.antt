@@ -85,6 +85,20 @@ unfolding outcome_of moved_nothing
 failed_is_no_end t k true e end = let z : Again ≡ Nothing = sym e ∙ end in cc
 failed_is_no_end t k false e end = let z : Failed ≡ Nothing = sym e ∙ end in cc
 
+-- one that moved bytes, or none and answered 0, has not failed
+pub moved_is_no_failure : (t : Transfer) (got : ℤ) (n : ℕ) (passing : Bool) → t ≡ outcome_of got n passing → (n ≡ 0 → got ≡ pos 0) → t ≡ Failed → ⊥
+unfolding outcome_of moved_nothing
+moved_is_no_failure t got n passing e zero failed =
+    on (ltb 0 n)
+    (λ some. let z : Bytes n ≡ Failed = sym (rw some at e) ∙ failed in cc)
+    (λ none. let none_came : n ≡ 0 = omega (arith, ltb-false 0 n none) in let z : Nothing ≡ Failed = sym (rw (none, zero none_came) at e) ∙ failed in cc)
+
+-- one that has failed is not to be tried again
+pub failure_lasts : (t : Transfer) (k : ℕ) (passing : Bool) → t ≡ outcome_of (negsuc k) 0 passing → t ≡ Failed → passing ≡ false
+unfolding outcome_of moved_nothing
+failure_lasts t k true e failed = let z : Again ≡ Failed = sym e ∙ failed in cc
+failure_lasts t k false e failed = refl
+
 -- the bytes that came stand in the buffer, behind its front
 pub first_of_part : (front part rest : List ℕ) (from n : ℕ) → length front ≡ from → n ≤ length part
     → take n (drop from (front ++ (part ++ rest))) ≡ take n part

@@ -1,5 +1,5 @@
 // Reading and writing bytes: the one module that calls the reader and the writer.
-ghost use Rattle.std.specs.Prelude.{◌≡◌, ◌+◌, ◌-◌, ◌<◌, ◌≤◌, length, take, drop};
+ghost use Rattle.std.specs.Prelude.{◌≡◌, ◌↔◌, ◌⊎◌, IsTrue, IsSome, if◌then◌else◌, None, Some, ◌+◌, ◌-◌, ◌<◌, ◌≤◌, length, take, drop};
 ghost use Rattle.std.specs.Io.KnownBytes.{Consumes, Appends, IsAtEnd};
 ghost use Rattle.bench.specs.Transfers.{outcome_of, Fits, moved_of};
 
@@ -98,12 +98,17 @@ impl Sent {
 }
 
 // The errors after which a call is tried again: a signal came first, or nothing can be moved now.
-fn is_passing(error: ErrorKind) -> bool {
+fn is_passing(error: ErrorKind) -> bool
+    ensures { IsTrue result
+        ↔ ((error ≡ ErrorKind.Interrupted) ⊎ (error ≡ ErrorKind.WouldBlock)) }
+{
     error == ErrorKind::Interrupted || error == ErrorKind::WouldBlock
 }
 
 // The error that ends the run: none where the call is tried again.
-fn to_tell(error: Error, passing: bool) -> Option<Error> {
+fn to_tell(error: Error, passing: bool) -> Option<Error>
+    ensures { result ≡ (if passing then None else Some error) }
+{
     if passing { None } else { Some(error) }
 }
 
@@ -131,6 +136,7 @@ fn read_once<R: Read>(source: &mut Source<R>, input: &mut [u8], from: usize) -> 
     ensures bytes { Consumes (R.remaining source.old.reader) (R.remaining source.new.reader)
         (moved_of result (drop from input.new)) }
     ensures end { result ≡ Transfer.Nothing → IsAtEnd (R.remaining source.new.reader) }
+    ensures told { result ≡ Transfer.Failed → IsSome source.new.error }
 {
     match source.reader.read(&mut input[from..]) {
         Ok(n) => outcome(n as isize, n, false),
@@ -174,6 +180,7 @@ fn write_once<W: Write>(sink: &mut Sink<W>, text: &[u8], from: usize, to: usize)
     ensures fits { Fits result (to - from) }
     ensures bytes { Appends (W.contents sink.old.writer) (W.contents sink.new.writer)
         (moved_of result (drop from text.now)) }
+    ensures told { result ≡ Transfer.Failed → IsSome sink.new.error }
 {
     match sink.writer.write(&text[from..to]) {
         Ok(n) => outcome(n as isize, n, false),

@@ -24,13 +24,13 @@ use Rattle.cells.proofs.Operations.{operated}
 use Rattle.settings.specs.Operations.{operation_in, is_exempt}
 use Rattle.settings.proofs.OperationLaws.{kind_in_law}
 use Rattle.settings.specs.Records.{port_operation_at}
-use Rattle.departure.specs.Frames.{is_none, leaves_plain, leaving_of, stored_at, operation_of_port, leaving_from, written, finished}
+use Rattle.departure.specs.Frames.{does_nothing, leaves_plain, leaving_of, stored_at, operation_of_port, leaving_from, written, finished}
 use Rattle.departure.proofs.Headers.{operation_at_law}
 
 -- ---- the kinds by number
 
-pub kind_none : (k : ℕ) → eqb k 0 ≡ is_none (kind_of k)
-unfolding is_none kind_of
+pub kind_none : (k : ℕ) → eqb k 0 ≡ does_nothing (kind_of k)
+unfolding does_nothing kind_of
 kind_none zero = refl
 kind_none (suc zero) = refl
 kind_none (suc (suc zero)) = refl
@@ -43,15 +43,15 @@ module _ (h : StoredHeader) where
   plain_exempt o e = rw e
 
   -- a word's kind is none just if its lowest three bits are 0
-  word_none : (w : ℕ) → eqb (w % 8) 0 ≡ is_none (operation_of (operation_in w)).kind
-  word_none w = kind_none (w % 8) ∙ ap is_none (sym (kind_in_law w))
+  word_none : (w : ℕ) → eqb (w % 8) 0 ≡ does_nothing (operation_of (operation_in w)).kind
+  word_none w = kind_none (w % 8) ∙ ap does_nothing (sym (kind_in_law w))
 
   plain_kinds : (links : List ℕ) (port : ℕ) → is_exempt h.operation ≡ false
       → (eqb (h.operation % 8) 0 && eqb (port_operation_at links port % 8) 0) ≡ leaves_plain h (operation_of_port links port)
   unfolding leaves_plain
   plain_kinds links port e =
-      let own : eqb (port_operation_at links port % 8) 0 ≡ is_none (operation_of_port links port).kind =
-      word_none (port_operation_at links port) ∙ ap (λ (n : OperationNumbers). is_none (operation_of n).kind) (operation_at_law links port) in
+      let own : eqb (port_operation_at links port % 8) 0 ≡ does_nothing (operation_of_port links port).kind =
+      word_none (port_operation_at links port) ∙ ap (λ (n : OperationNumbers). does_nothing (operation_of n).kind) (operation_at_law links port) in
       rw (e, operated h e, word_none h.operation, own)
 
   -- the kinds tell it for every frame: on a BPDU no operation acts at all
@@ -64,8 +64,8 @@ module _ (h : StoredHeader) where
 
   -- ---- the tags
 
-  stays : (k : Kind) (new : Tag) (tags : List Tag) → is_none k ≡ true → on_stack k new tags ≡ tags
-  unfolding is_none on_stack
+  stays : (k : Kind) (new : Tag) (tags : List Tag) → does_nothing k ≡ true → on_stack k new tags ≡ tags
+  unfolding does_nothing on_stack
   stays none new tags e = refl
   stays pop new tags e = let z : ◌≡◌ {A = ℕ} 0 1 = cc in absurd (omega arith)
   stays push new tags e = let z : ◌≡◌ {A = ℕ} 0 1 = cc in absurd (omega arith)
@@ -78,9 +78,9 @@ module _ (h : StoredHeader) where
       on (is_exempt h.operation)
       (λ e. rw e)
       (λ e.
-      let both : (is_none (stored_operation h).kind && is_none o.kind) ≡ true = rw e at p in
-      let first : is_none (stored_operation h).kind ≡ true = and_left (is_none (stored_operation h).kind) (is_none o.kind) both in
-      let second : is_none o.kind ≡ true = and_right (is_none (stored_operation h).kind) (is_none o.kind) both in
+      let both : (does_nothing (stored_operation h).kind && does_nothing o.kind) ≡ true = rw e at p in
+      let first : does_nothing (stored_operation h).kind ≡ true = and_left (does_nothing (stored_operation h).kind) (does_nothing o.kind) both in
+      let second : does_nothing o.kind ≡ true = and_right (does_nothing (stored_operation h).kind) (does_nothing o.kind) both in
       rw e (stays o.kind _ _ second ∙ stays (stored_operation h).kind _ tags first))
 
 -- ---- the bytes of a frame are bytes

@@ -33,15 +33,15 @@ leaving_of h port tags =
     (stored_operation h) port
 
 -- no operation acts: for a BPDU, or because both are none
-unfoldable pub is_none : Kind → Bool
-is_none none = true
-is_none pop = false
-is_none push = false
-is_none swap = false
-is_none pop_all = false
+unfoldable pub does_nothing : Kind → Bool
+does_nothing none = true
+does_nothing pop = false
+does_nothing push = false
+does_nothing swap = false
+does_nothing pop_all = false
 
 unfoldable pub leaves_plain : StoredHeader → Operation → Bool
-leaves_plain h port = is_exempt h.operation || (is_none (stored_operation h).kind && is_none port.kind)
+leaves_plain h port = is_exempt h.operation || (does_nothing (stored_operation h).kind && does_nothing port.kind)
 
 -- the stored header and the bytes of the frame whose first cell is c
 abbrev pub stored_at : List ℕ → ℕ → StoredHeader

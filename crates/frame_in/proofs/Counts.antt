@@ -8,7 +8,7 @@ use native.Mathlib.Omega.{arith}
 use borrow.Author.Tests.{ne_eqb}
 use lib.Dec.{eqb}
 use Rattle.std.specs.Prelude.{if◌then◌else◌}
-use Rattle.rules.specs.Choice.{is_none}
+use Rattle.rules.specs.Choice.{is_empty}
 use Rattle.rules.specs.Facts.{Facts}
 use Rattle.rules.specs.Outcomes.{Frame, outcome_of}
 use Rattle.rules.specs.Counters.{counter_number, offered}
@@ -91,8 +91,8 @@ unfolding pushed_at each_port
 pushed_each n queue cell [] l = refl
 pushed_each n queue cell (r ∷ rs) l = pushed_each n queue cell rs _
 
-pub none_is : (ps : List ℕ) → is_none ps ≡ eqb (mask ps) 0
-unfolding is_none mask
+pub none_is : (ps : List ℕ) → is_empty ps ≡ eqb (mask ps) 0
+unfolding is_empty mask
 none_is [] = refl
 none_is (p ∷ ps) = sym (ne_eqb (2 ^ p + mask ps) 0 (λ e. omega (arith, pow_pos p)))
 

@@ -16,7 +16,7 @@ use Rattle.rules.specs.PortTests.{ports_left}
 use Rattle.rules.specs.Facts.{Facts}
 use Rattle.rules.specs.ReasonTable.{queueing, part_number, reason_table, lines_in, rows_of, reason_for}
 use Rattle.rules.specs.Outcomes.{drops, queues, frame_of, outcome_by, outcome_of, counts_tests, learns, is_not_learned}
-use Rattle.rules.specs.Choice.{sift, is_none}
+use Rattle.rules.specs.Choice.{sift, is_empty}
 use Rattle.rules.proofs.Choice.{on}
 use Rattle.machine.specs.FrameIn.{candidate_events}
 use Rattle.layout.specs.Places.{cell_bytes}
@@ -149,7 +149,7 @@ module _ (links addresses frame : List ℕ) (n port : ℕ) (lent : Lent links ad
     unfolding candidate_events
     offer_tests l = rw tested (tests_counted f.test o.masks masks_are l)
 
-    is_none_is : is_none (ports_left f.test) ≡ eqb o.masks.left 0
+    is_none_is : is_empty (ports_left f.test) ≡ eqb o.masks.left 0
     is_none_is = none_is (ports_left f.test) ∙ ap (λ (m : ℕ). eqb m 0) (left_is f.test o.masks masks_are)
 
     reason_none : eqb o.masks.left 0 ≡ true → reason_for f ≡ some no_port_left

@@ -7,7 +7,7 @@ use mathlib.Core.Option.{none, some}
 use native.Mathlib.Omega.{arith}
 use lib.ListN.{length}
 use borrow.Author.Tests.{eq-eqb}
-use Rattle.rules.specs.Choice.{sift, is_none, among}
+use Rattle.rules.specs.Choice.{sift, is_empty, among}
 use Rattle.rules.specs.Cells.{cells}
 use Rattle.rules.specs.Reasons.{Reason, reason_number}
 use Rattle.rules.specs.PortTests.{ports_left}
@@ -36,7 +36,7 @@ module _ (s : State) (c : FrameInRequest) where
   passing = ports_exactly s.core.settings s.core.table _ c.port c.packet
 
   -- a frame that is queued has a port left
-  pub port_left : reason_for (facts_now s c) ≡ none → is_none (ports_left (facts_now s c).test) ≡ false
+  pub port_left : reason_for (facts_now s c) ≡ none → is_empty (ports_left (facts_now s c).test) ≡ false
   unfolding rows_of lines_in reason_table sift part_number
   port_left e = each_first (holds_none (rows_of queueing (facts_now s c)) (none_last (facts_now s c) e))
 
@@ -77,9 +77,9 @@ module _ (s : State) (c : FrameInRequest) where
     unfolding outcome_of outcome_by outcome_waiting
     queued_waiting e = waiting_is ∙ rw e
 
-    joins_at : (ports : List ℕ) → ports_left (facts_now s c).test ≡ ports → is_none ports ≡ false → reason_for (facts_now s c) ≡ none
+    joins_at : (ports : List ℕ) → ports_left (facts_now s c).test ≡ ports → is_empty ports ≡ false → reason_for (facts_now s c) ≡ none
         → Joined s c (perform s (frame_in c)).core.waiting
-    unfolding is_none join stay among
+    unfolding is_empty join stay among
     joins_at [] p h e = absurd (true≢false h)
     joins_at (r ∷ rs) p h e =
         record {
@@ -94,10 +94,10 @@ module _ (s : State) (c : FrameInRequest) where
 
     queued_takes : reason_for (facts_now s c) ≡ none
         → cells_in_use (perform s (frame_in c)).core.waiting ≡ cells_in_use s.core.waiting + cells (length c.packet.bytes)
-    unfolding is_none join stay cells_in_use
+    unfolding is_empty join stay cells_in_use
     queued_takes e = takes (ports_left (facts_now s c).test) (port_left e) (queued_waiting e)
       where
-        takes : (ports : List ℕ) → is_none ports ≡ false
+        takes : (ports : List ℕ) → is_empty ports ≡ false
             → (perform s (frame_in c)).core.waiting ≡ join (frame_of (facts_now s c)) ports s.core.waiting
             → cells_in_use (perform s (frame_in c)).core.waiting ≡ cells_in_use s.core.waiting + cells (length c.packet.bytes)
         takes [] h w = absurd (true≢false h)

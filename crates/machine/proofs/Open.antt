@@ -25,7 +25,7 @@ use Rattle.machine.specs.History
 
 unfoldable pub everything : Unit {0}
 unfolding Rattle.rules.specs.Choice.sift
-    Rattle.rules.specs.Choice.is_none
+    Rattle.rules.specs.Choice.is_empty
     Rattle.rules.specs.Choice.is_nothing
     Rattle.rules.specs.Choice.among
     Rattle.rules.specs.Choice.without
@@ -200,7 +200,6 @@ unfolding Rattle.rules.specs.Choice.sift
     Rattle.machine.specs.FrameIn.frame_in_step
     Rattle.machine.specs.TakeOut.leaving_stack
     Rattle.machine.specs.TakeOut.leaving_bytes
-    Rattle.machine.specs.TakeOut.is_empty
     Rattle.machine.specs.TakeOut.first_waiting
     Rattle.machine.specs.TakeOut.served_queue
     Rattle.machine.specs.TakeOut.oldest_of

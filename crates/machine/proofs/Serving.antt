@@ -7,10 +7,11 @@ use mathlib.Core.Option.{none, some}
 use native.Mathlib.Omega.{arith}
 use lib.ListN as ListN
 use Rattle.rules.specs.Outcomes.{Frame}
+use Rattle.rules.specs.Choice.{is_empty}
 use Rattle.rules.proofs.Choice.{on, on_list, on_option}
 use Rattle.machine.specs.Waiting.{Waiting, waits_at, queue_at, oldest}
 use Rattle.machine.specs.State.{State}
-use Rattle.machine.specs.TakeOut.{is_empty, first_waiting, served_queue, oldest_of, served}
+use Rattle.machine.specs.TakeOut.{first_waiting, served_queue, oldest_of, served}
 use Rattle.machine.specs.CallTheorems.{NothingWaits, Serves}
 use Rattle.machine.proofs.Waits.{own_queue}
 

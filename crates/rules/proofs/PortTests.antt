@@ -13,7 +13,7 @@ use Rattle.rules.specs.Settings.{PortState, disabled, blocking, listening, learn
 use Rattle.rules.specs.Addresses.{Table}
 use Rattle.rules.specs.PortTests.{Test, passes, not_member, arrival, elsewhere, state, queue_off, is_passed, ports_left, port_test, bpdu_test}
 use Rattle.rules.specs.Facts.{Packet, facts_of}
-use Rattle.rules.specs.ArrivalTheorems.{DisabledOrForwarding, is_disabled, is_forwarding, Barring, is_blocking_law, is_listening_law, is_learning_law, Candidate, TestTheorems, BpduTestTheorems, ExactlyPassing}
+use Rattle.rules.specs.ArrivalTheorems.{DisabledOrForwarding, is_disabled, is_forwarding, Barring, blocking_bars, listening_bars, learning_bars, Candidate, TestTheorems, BpduTestTheorems, ExactlyPassing}
 use Rattle.rules.proofs.Choice.{on}
 
 -- ---- which test it is
@@ -68,17 +68,17 @@ departs_then forwarding is_forwarding = refl
 bars_only : (x : PortState) → departs x ≡ false → Barring x
 unfolding departs
 bars_only disabled e = absurd (true≢false e)
-bars_only blocking e = is_blocking_law
-bars_only listening e = is_listening_law
-bars_only learning e = is_learning_law
+bars_only blocking e = blocking_bars
+bars_only listening e = listening_bars
+bars_only learning e = learning_bars
 bars_only forwarding e = absurd (true≢false e)
 
 bars_then : (x : PortState) → Barring x → departs x ≡ false
 unfolding departs
 bars_then disabled impossible = elim impossible [ ]
-bars_then blocking is_blocking_law = refl
-bars_then listening is_listening_law = refl
-bars_then learning is_learning_law = refl
+bars_then blocking blocking_bars = refl
+bars_then listening listening_bars = refl
+bars_then learning learning_bars = refl
 bars_then forwarding impossible = elim impossible [ ]
 
 -- ---- the chain of tests

@@ -2,7 +2,7 @@
 -- a frame's outcome, and of how far a frame came. Assumes nothing: these are definitions.
 use Rattle.std.specs.Prelude.{ℕ, Bool, true, not, ◌&&◌, List, [], ◌∷◌, map, eqb, leb, ltb, length}
 use Rattle.std.proofs.Math.Option.{Option}
-use Rattle.rules.specs.Choice.{sift, is_nothing, is_none}
+use Rattle.rules.specs.Choice.{sift, is_nothing, is_empty}
 use Rattle.rules.specs.Lines.{Line, line, first}
 use Rattle.rules.specs.Numbers.{barred_vid}
 use Rattle.rules.specs.Cells.{shortest, longest}
@@ -45,7 +45,7 @@ reason_table f =
     ∷ row entering no_member (not (f.vlan.member f.port))
     ∷ row choosing port_learning (is_learning f.state)
     ∷ row choosing no_candidate (not (any_candidate f.test))
-    ∷ row queueing no_port_left (is_none (ports_left f.test))
+    ∷ row queueing no_port_left (is_empty (ports_left f.test))
     ∷ row queueing no_room f.outnumbers
     ∷ []
 

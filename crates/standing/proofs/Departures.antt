@@ -11,7 +11,7 @@ use lib.ListN.{length, get_or, set, length-set}
 use lib.Seq.{get_or-set_same, get_or-set_other}
 use borrow.Author.Tests.{eqb-false}
 use Rattle.std.specs.Prelude.{if◌then◌else◌}
-use Rattle.rules.specs.Choice.{sift, among, without, changed, Distinct, Each, nobody, also, is_none}
+use Rattle.rules.specs.Choice.{sift, among, without, changed, Distinct, Each, nobody, also, is_empty}
 use Rattle.rules.proofs.Choice.{on, on_list, and_left, eqb_self}
 use Rattle.machine.specs.Waiting.{Waiting, size, waits_at, send}
 use Rattle.machine.specs.FrameIn.{mask}
@@ -130,15 +130,15 @@ module _ (n : ℕ) (links : List ℕ) (ws : List Waiting) (T : LinkTraffic n lin
   abbrev pub D : List ℕ
   D = departed n p i links
 
-  pub last_test : eqb (ports_of links i) (2 ^ p) ≡ is_none left
+  pub last_test : eqb (ports_of links i) (2 ^ p) ≡ is_empty left
   last_test = rw waits_i.said (last_is p w.ports distinct_i at_port)
 
   pub given : left ≡ [] → D ≡ given_back n i links
-  unfolding departed is_last is_none
+  unfolding departed is_last is_empty
   given e = rw (last_test, e)
 
   pub kept : (m : ℕ) (ms : List ℕ) → left ≡ m ∷ ms → D ≡ set links (frame_word i) (word_of links i - 2 ^ p)
-  unfolding departed is_last is_none
+  unfolding departed is_last is_empty
   kept m ms e = rw (last_test, e)
 
   pub fewer : ports_of links i - 2 ^ p ≡ mask left

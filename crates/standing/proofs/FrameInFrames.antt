@@ -7,7 +7,7 @@ use mathlib.Core.Option.{none}
 use native.Mathlib.Omega.{arith}
 use lib.ListN.{length, get_or}
 use borrow.Author.Tests.{ltb-false}
-use Rattle.rules.specs.Choice.{sift, is_none}
+use Rattle.rules.specs.Choice.{sift, is_empty}
 use Rattle.rules.specs.Cells.{shortest, longest}
 use Rattle.rules.specs.Tags.{Bytes, Header, HeaderInRange}
 use Rattle.rules.specs.Settings.{Vlan, Settings, no_operation}
@@ -42,7 +42,7 @@ pub record Fitted (operation : ℕ) (f : Frame) : Type 0 where
 pub record NotDropped (f : Facts) : Type 0 where
   pub short : shortest ≤ length f.packet.bytes
   pub long : length f.packet.bytes ≤ longest
-  pub port_left : is_none (ports_left f.test) ≡ false
+  pub port_left : is_empty (ports_left f.test) ≡ false
   pub room : f.outnumbers ≡ false
 
 pub not_dropped : (f : Facts) → reason_for f ≡ none → NotDropped f

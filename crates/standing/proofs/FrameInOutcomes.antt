@@ -8,7 +8,7 @@ use mathlib.Core.Option.{none}
 use native.Mathlib.Omega.{arith}
 use lib.ListN.{length}
 use borrow.Author.Tests.{ltb-false}
-use Rattle.rules.specs.Choice.{sift, among, Distinct, Each, is_none}
+use Rattle.rules.specs.Choice.{sift, among, Distinct, Each, is_empty}
 use Rattle.rules.specs.Cells.{cells, longest}
 use Rattle.rules.specs.Tags.{Bytes}
 use Rattle.rules.specs.PortTests.{ports_left}
@@ -68,7 +68,7 @@ module _ (links addresses : List ℕ) (good : InRange links addresses) (p : ℕ)
   enough_free room = ltb-false (free_count links) (cells (length bytes)) room
 
   queued_joins : reason_for facts ≡ none → Joins links (operation_for links facts.vid) (frame_of facts) (ports_left facts.test)
-  unfolding is_none
+  unfolding is_empty
   queued_joins e =
       let kept = not_dropped facts e in
       on_list (ports_left facts.test)

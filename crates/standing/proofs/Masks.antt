@@ -7,7 +7,7 @@ use native.Mathlib.Omega.{arith}
 use lib.Dec.{eqb}
 use lib.Pow.{pow_pos}
 use borrow.Author.Tests.{eqb-true, eq-eqb, ne_eqb}
-use Rattle.rules.specs.Choice.{sift, among, without, Distinct, is_none}
+use Rattle.rules.specs.Choice.{sift, among, without, Distinct, is_empty}
 use Rattle.rules.specs.Numbers.{all_ports}
 use Rattle.rules.proofs.Choice.{on, on_list, distinct_sift}
 use Rattle.machine.specs.FrameIn.{mask}
@@ -31,8 +31,8 @@ pub mask_left : (m : ℕ) (ms ps : List ℕ) → ps ≡ m ∷ ms → 1 ≤ mask 
 mask_left m ms ps e = rw e (mask_some m ms)
 
 -- the mask is this port's alone exactly if no other port is left
-pub last_is : (p : ℕ) (ps : List ℕ) → Distinct ps → among p ps ≡ true → eqb (mask ps) (2 ^ p) ≡ is_none (without p ps)
-unfolding is_none mask
+pub last_is : (p : ℕ) (ps : List ℕ) → Distinct ps → among p ps ≡ true → eqb (mask ps) (2 ^ p) ≡ is_empty (without p ps)
+unfolding is_empty mask
 last_is p ps d h =
     on_list (without p ps)
     (λ e. rw e (eq-eqb (mask ps) (2 ^ p) (omega (arith, mask_without p ps d h, ap mask e))))

@@ -7,10 +7,11 @@ use mathlib.Core.Option.{none, some}
 use native.Mathlib.Omega.{arith}
 use lib.Dec.{eqb}
 use borrow.Author.Tests.{lt-ltb, eqb-true, eqb-false}
+use Rattle.rules.specs.Choice.{is_empty}
 use Rattle.rules.proofs.Choice.{on, on_list}
 use Rattle.machine.specs.Waiting.{Waiting, waits_at, queue_at, oldest}
 use Rattle.machine.specs.State.{State}
-use Rattle.machine.specs.TakeOut.{is_empty, first_waiting, served_queue, oldest_of}
+use Rattle.machine.specs.TakeOut.{first_waiting, served_queue, oldest_of}
 use Rattle.machine.specs.TakeOut as Machine
 use Rattle.machine.proofs.Waits.{own_queue}
 use Rattle.queues.specs.Lists.{waiting_of, list_of, waiting_in_range}

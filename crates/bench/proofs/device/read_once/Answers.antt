@@ -1,8 +1,8 @@
 -- What is read lies in the part that was lent, and is what the reader gave.
-use Rattle.std.proofs.Common.{◌-◌, length, take, sym, ◌∙◌, [], subst, arith, length-take-le, take_at}
+use Rattle.std.proofs.Common.{rules, ◌-◌, length, take, sym, ◌∙◌, [], subst, arith, length-take-le, take_at}
 use Rattle.std.specs.Io.KnownBytes.{Consumes}
 use Rattle.std.proofs.KnownBytes.{Consumes-nil, Consumes-kept}
-use Rattle.bench.proofs.Transferring.{moved_fits, first_moved, none_at_the_end, failed_is_no_end, first_of_part}
+use Rattle.bench.proofs.Transferring.{moved_fits, first_moved, none_at_the_end, failed_is_no_end, first_of_part, moved_is_no_failure, failure_lasts}
 use Rattle.bench.proofs.device.read_once.Goals as goal
 
 pub returns-in-Ok-clause-fits : goal.returns-in-Ok-clause-fits
@@ -40,3 +40,9 @@ returns-in-Err-clause-bytes g c =
 
 pub returns-in-Err-clause-end : goal.returns-in-Err-clause-end
 returns-in-Err-clause-end g c = λ end. absurd (failed_is_no_end _ _ _ c.outcome-in-Err.ensures end)
+
+pub returns-in-Ok-clause-told : goal.returns-in-Ok-clause-told
+returns-in-Ok-clause-told g c = λ failed. absurd (moved_is_no_failure _ _ _ _ c.outcome.ensures (λ none. rw none) failed)
+
+pub returns-in-Err-clause-told : goal.returns-in-Err-clause-told
+returns-in-Err-clause-told g c = λ failed. rw (c.to_tell-source.ensures, failure_lasts _ _ _ c.outcome-in-Err.ensures failed) (search rules)
