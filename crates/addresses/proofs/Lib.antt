@@ -1,10 +1,8 @@
 pub mod Xor
 pub mod Search
-pub mod Writes
 pub mod Passes
 pub mod Entries
 pub mod Ranges
 pub mod LookUps
 pub mod Steps
 pub mod Frames
-pub mod Matches

@@ -3,7 +3,7 @@ use Prim.Native.Nat.{ℕ, ◌^◌, ◌≤◌, ◌<◌}
 use mathlib.Core.Path.{◌≡◌, refl, ap, ◌∙◌, fun_ext}
 use mathlib.Core.Bool.{true, false, not}
 use mathlib.Core.List.{List}
-use mathlib.Core.Option.{Option, none, some}
+use Rattle.std.specs.Prelude.{Option, None as none, Some as some, Result, Ok, Err}
 use native.Mathlib.Omega.{arith}
 use lib.ListN.{length, get_or, set}
 use Rattle.rules.specs.Numbers.{place_count}
@@ -11,16 +11,17 @@ use Rattle.rules.specs.Addresses.{Entry, Table, find, empty_for, with_mark, answ
 use Rattle.rules.specs.Addresses.{learning_by, learning_of, is_no_place, learned_entry, learn_by, learn, aged, static_entry, set_static, is_full, no_place_for, remove}
 use Rattle.rules.specs.Tables.{Found as Match, at, nowhere, is_found, put, place_by, place_in, put_at, set_in, remove_found, remove_in}
 use Rattle.rules.proofs.Choice.{on}
-use Rattle.addresses.specs.Numbers.{static_in, entry_in, entry_of, table_of, all_in_range}
-use Rattle.addresses.specs.Search.{answered, look_up, matched, full, damaged}
+use Rattle.addresses.specs.Numbers.{static_in, entry_of, table_of, all_in_range}
+use Rattle.addresses.specs.Search.{answered, look_up, found_by, matched, full, damaged}
 use Rattle.addresses.specs.Writes.{marked_number, marked_by, learned_number, learned_by, static_number, static_by, removed_by, aged_by}
 use Rattle.addresses.specs.Theorems.{Fits, StepTheorems, RangeTheorems}
+use Rattle.layout.specs.declared.damage.Damaged.{Damaged}
 use Rattle.addresses.specs.declared.LookUp.{LookUp}
-use Rattle.addresses.specs.declared.LookUp.TheVariants.{Found, Vacant, Full, Damaged}
-use Rattle.addresses.proofs.Entries.{zero_in_range, marked_alike, marked_entry, marked_in_range, entry_used, entry_there, older_entry, read_written, written_in_range, table_set}
+use Rattle.addresses.specs.declared.LookUp.TheVariants.{Found, Vacant, Full}
+use Rattle.addresses.proofs.Entries.{zero_in_range, gone_entry, static_read, marked_read, marked_in_range, older_entry, read_written, written_in_range, table_set}
 use Rattle.addresses.proofs.Passes.{older_read}
 use Rattle.addresses.proofs.Ranges.{all_at, all_set, all_older}
-use Rattle.addresses.proofs.LookUps.{Hit, find_hit, empty_inside, look_up_finds, found_at, found_there}
+use Rattle.addresses.proofs.LookUps.{Hit, find_hit, empty_inside, look_up_finds, found_used}
 
 -- ---- the numbers that are written
 
@@ -31,19 +32,6 @@ learned_fits k port h p = record { key_fits = h; port_fits = p }
 static_fits : (k port : ℕ) → k < 2 ^ 52 → port ≤ 4 → Fits (static_entry k port)
 unfolding static_entry
 static_fits k port h p = record { key_fits = h; port_fits = p }
-
-gone_entry : entry_of 0 ≡ none
-unfolding entry_of
-gone_entry = refl
-
-static_read : (n : ℕ) (e : Entry) → entry_of n ≡ some e → static_in n ≡ e.static
-unfolding entry_in
-static_read n e h = ap (λ (x : Entry). x.static) (entry_there n e h).1
-
-marked_read : (n : ℕ) (e : Entry) → entry_of n ≡ some e → entry_of (marked_number n) ≡ some (with_mark true e)
-marked_read n e h =
-    let t = entry_there n e h in
-    entry_used (marked_number n) ((marked_alike n).vacancy ∙ t.0) ∙ ap some (marked_entry n ∙ ap (with_mark true) t.1)
 
 -- ---- one place
 
@@ -104,13 +92,13 @@ module _ (memory : List ℕ) (long : length memory ≡ place_count) (k : ℕ) wh
       empty_set i g (static_number k port) (some (static_entry k port)) (read_written (static_entry k port) (static_fits k port h p))
   static_at port h p nowhere none f g = refl
 
-  matched_at : (m : Match Entry) (o : Option ℕ) → matched (answered m o) ≡ is_found m
+  matched_at : (m : Match Entry) (o : Option ℕ) → matched (Ok (answered m o)) ≡ is_found m
   unfolding answered is_found
   matched_at (at i e) o = refl
   matched_at nowhere (some i) = refl
   matched_at nowhere none = refl
 
-  full_at : (m : Match Entry) (o : Option ℕ) → full (answered m o) ≡ is_full (place_by m o)
+  full_at : (m : Match Entry) (o : Option ℕ) → full (Ok (answered m o)) ≡ is_full (place_by m o)
   unfolding answered place_by is_full
   full_at (at i e) o = refl
   full_at nowhere (some i) = refl
@@ -121,7 +109,7 @@ module _ (memory : List ℕ) (long : length memory ≡ place_count) (k : ℕ) wh
     unfolding rule_look_up remove remove_in find learn learning_of set_static set_in no_place_for place_in empty_for
     step_theorems =
         let t : Table = table_of memory in
-        let a : look_up memory k ≡ answered (find t k) (empty_for t k) = look_up_finds memory k whole in
+        let a : look_up memory k ≡ Ok (answered (find t k) (empty_for t k)) = look_up_finds memory k whole in
         record {
           matched_is = rw a (matched_at (find t k) (empty_for t k));
           full_is = rw a (full_at (find t k) (empty_for t k));
@@ -134,16 +122,15 @@ module _ (memory : List ℕ) (long : length memory ≡ place_count) (k : ℕ) wh
 
 -- ---- memory in range
 
-mark_range : (memory : List ℕ) → all_in_range memory ≡ true → (k : ℕ) (l : LookUp) → look_up memory k ≡ l → all_in_range (marked_by l memory) ≡ true
+mark_range : (memory : List ℕ) → all_in_range memory ≡ true → (k : ℕ) (l : Result LookUp Damaged) → look_up memory k ≡ l → all_in_range (marked_by (found_by l) memory) ≡ true
 unfolding marked_by
-mark_range memory good k (Found port place) e =
+mark_range memory good k (Ok (Found port place)) e =
     let n : ℕ = get_or memory place 0 in
-    let f = found_at memory k port place e in
     all_set memory place (marked_number n) good
-    (marked_in_range n (entry_there n f.entry (found_there memory k port place f)).0 ∙ all_at memory place good)
-mark_range memory good k (Vacant place) e = good
-mark_range memory good k Full e = good
-mark_range memory good k Damaged e = good
+    (marked_in_range n (found_used memory k port place e) ∙ all_at memory place good)
+mark_range memory good k (Ok (Vacant place)) e = good
+mark_range memory good k (Ok Full) e = good
+mark_range memory good k (Err damage) e = good
 
 module _ (memory : List ℕ) (good : all_in_range memory ≡ true) where
   remove_range : (l : LookUp) → all_in_range (removed_by l memory) ≡ true
@@ -151,7 +138,6 @@ module _ (memory : List ℕ) (good : all_in_range memory ≡ true) where
   remove_range (Found port place) = all_set memory place 0 good zero_in_range
   remove_range (Vacant place) = good
   remove_range Full = good
-  remove_range Damaged = good
 
   module _ (k port : ℕ) (h : k < 2 ^ 52) (p : port ≤ 4) where
     learn_set : (place : ℕ) → all_in_range (set memory place (learned_number k port)) ≡ true
@@ -162,7 +148,6 @@ module _ (memory : List ℕ) (good : all_in_range memory ≡ true) where
     learn_range (Found _ place) = on (static_in (get_or memory place 0)) (λ s. rw s good) (λ s. rw s (learn_set place))
     learn_range (Vacant place) = learn_set place
     learn_range Full = good
-    learn_range Damaged = good
 
     static_set : (place : ℕ) → all_in_range (set memory place (static_number k port)) ≡ true
     static_set place = all_set memory place (static_number k port) good (written_in_range (static_entry k port) (static_fits k port h p))
@@ -172,7 +157,6 @@ module _ (memory : List ℕ) (good : all_in_range memory ≡ true) where
     static_range (Found _ place) = static_set place
     static_range (Vacant place) = static_set place
     static_range Full = good
-    static_range Damaged = good
 
   pub range_theorems : RangeTheorems memory good
   unfolding aged_by aged table_of
@@ -181,7 +165,7 @@ module _ (memory : List ℕ) (good : all_in_range memory ≡ true) where
         age_is = fun_ext (λ i. rw (older_read memory i) (older_entry (get_or memory i 0) (all_at memory i good)));
         age_in_range = all_older memory good;
         mark_in_range = λ k. mark_range memory good k (look_up memory k) refl;
-        remove_in_range = λ k. remove_range (look_up memory k);
-        learn_in_range = λ k port h p. learn_range k port h p (look_up memory k);
-        static_in_range = λ k port h p. static_range k port h p (look_up memory k);
+        remove_in_range = λ k. remove_range (found_by (look_up memory k));
+        learn_in_range = λ k port h p. learn_range k port h p (found_by (look_up memory k));
+        static_in_range = λ k port h p. static_range k port h p (found_by (look_up memory k));
       }

@@ -1,7 +1,8 @@
 -- The layout paper, "Address memory": how a number of the memory reads as an entry, and how an entry is written.
 -- Assumes nothing: these are definitions.
-use Rattle.std.specs.Prelude.{ℕ, ◌+◌, ◌*◌, ◌/◌, ◌%◌, Bool, true, false, ◌||◌, ◌&&◌, List, [], ◌∷◌, eqb, ltb, get_or, if◌then◌else◌}
-use Rattle.std.proofs.Math.Option.{Option, none, some}
+use Rattle.std.specs.Prelude.{ℕ, ◌+◌, ◌*◌, ◌/◌, ◌%◌, Bool, true, false, ◌||◌, ◌&&◌, List, eqb, ltb, get_or, if◌then◌else◌}
+use Rattle.std.specs.Prelude.{Option, None as none, Some as some}
+use Rattle.std.specs.List.{list_all}
 use Rattle.rules.specs.Addresses.{Entry, Table}
 
 -- ---- the parts of a number: bit 0 mark, bit 1 static, bits 2 to 4 port, bits 5 to 10 zero, bit 11 in use, bits 12 to
@@ -47,8 +48,7 @@ unfoldable pub table_of : List ℕ → Table
 table_of memory place = entry_of (get_or memory place 0)
 
 unfoldable pub all_in_range : List ℕ → Bool
-all_in_range [] = true
-all_in_range (n ∷ ns) = in_range n && all_in_range ns
+all_in_range memory = list_all in_range memory
 
 -- ---- writing
 

@@ -2,13 +2,13 @@
 -- changes. `proofs/Ranges.antt`, `proofs/LookUps.antt`, `proofs/Steps.antt` and `proofs/Frames.antt` prove it. Assumes
 -- nothing: these are definitions.
 use Rattle.std.specs.Prelude.{ℕ, ◌^◌, ◌≤◌, ◌<◌, ◌≡◌, true, false, not, List, length, set, replicate}
-use Rattle.std.proofs.Math.Option.{none, some}
+use Rattle.std.specs.Prelude.{None as none, Some as some, Ok}
 use Rattle.rules.specs.Numbers.{place_count}
 use Rattle.rules.specs.Addresses.{Entry, find, empty_for, look_up as rule_look_up, after_look_up, is_no_place, learning_of}
 use Rattle.rules.specs.Addresses.{learn, aged, set_static, no_place_for, remove}
 use Rattle.rules.specs.Tables.{put, is_found}
 use Rattle.addresses.specs.Numbers.{in_range, entry_of, table_of, all_in_range, number_of}
-use Rattle.addresses.specs.Search.{answered, look_up, place_of, matched, full, damaged}
+use Rattle.addresses.specs.Search.{answered, look_up, place_of, found_by, matched, full, damaged}
 use Rattle.addresses.specs.Writes.{marked_by, learned_by, static_by, removed_by, aged_by}
 use Rattle.addresses.specs.declared.LookUp.{LookUp}
 use Rattle.addresses.specs.declared.LookUp.TheVariants.{Found}
@@ -32,14 +32,14 @@ pub record NumberTheorems : Type 0 where
 pub record SearchTheorems : Type 0 where
   -- a look-up that meets no damage is the rules' search
   pub look_up_finds : (memory : List ℕ) (k : ℕ) → damaged (look_up memory k) ≡ false
-      → look_up memory k ≡ answered (find (table_of memory) k) (empty_for (table_of memory) k)
+      → look_up memory k ≡ Ok (answered (find (table_of memory) k) (empty_for (table_of memory) k))
   -- memory in range has none
   pub undamaged : (memory : List ℕ) (k : ℕ) → all_in_range memory ≡ true → damaged (look_up memory k) ≡ false
-  pub place_inside : (memory : List ℕ) (k : ℕ) → place_of (look_up memory k) < place_count
-  pub port_inside : (memory : List ℕ) (k port place : ℕ) → look_up memory k ≡ Found port place → port ≤ 4
+  pub place_inside : (memory : List ℕ) (k : ℕ) → place_of (found_by (look_up memory k)) < place_count
+  pub port_inside : (memory : List ℕ) (k port place : ℕ) → look_up memory k ≡ Ok (Found port place) → port ≤ 4
   -- a mark changes no key and no emptiness: what was found before it is right after it
   pub mark_keeps : (memory : List ℕ) (k other : ℕ) → length memory ≡ place_count
-      → look_up (marked_by (look_up memory k) memory) other ≡ look_up memory other
+      → look_up (marked_by (found_by (look_up memory k)) memory) other ≡ look_up memory other
 
 -- each change, at what a look-up without damage found, is the rules' change of the table
 pub record StepTheorems (memory : List ℕ) (long : length memory ≡ place_count) (k : ℕ) (whole : damaged (look_up memory k)
@@ -47,24 +47,24 @@ pub record StepTheorems (memory : List ℕ) (long : length memory ≡ place_coun
   -- refusals 9 and 8
   pub matched_is : matched (look_up memory k) ≡ is_found (find (table_of memory) k)
   pub full_is : full (look_up memory k) ≡ no_place_for (table_of memory) k
-  pub mark_is : table_of (marked_by (look_up memory k) memory)
+  pub mark_is : table_of (marked_by (found_by (look_up memory k)) memory)
       ≡ after_look_up (rule_look_up (table_of memory) false k) (table_of memory)
-  pub remove_is : table_of (removed_by (look_up memory k) memory) ≡ remove (table_of memory) k
+  pub remove_is : table_of (removed_by (found_by (look_up memory k)) memory) ≡ remove (table_of memory) k
   pub learn_is : (port : ℕ) → k < 2 ^ 52 → port ≤ 4
-      → table_of (learned_by (look_up memory k) k port memory).1 ≡ learn (table_of memory) k port
+      → table_of (learned_by (found_by (look_up memory k)) k port memory).1 ≡ learn (table_of memory) k port
   pub learn_placed : (port : ℕ)
-      → (learned_by (look_up memory k) k port memory).0 ≡ not (is_no_place (learning_of (table_of memory) k))
+      → (learned_by (found_by (look_up memory k)) k port memory).0 ≡ not (is_no_place (learning_of (table_of memory) k))
   pub static_is : (port : ℕ) → k < 2 ^ 52 → port ≤ 4
-      → table_of (static_by (look_up memory k) k port memory) ≡ set_static (table_of memory) k port
+      → table_of (static_by (found_by (look_up memory k)) k port memory) ≡ set_static (table_of memory) k port
 
 -- a frame marks its destination and then learns its source, at what both look-ups found before: the rules' order
 pub record FrameTheorems (memory : List ℕ) (long : length memory ≡ place_count) (destination source : ℕ)
     (whole : damaged (look_up memory destination) ≡ false) (whole₂ : damaged (look_up memory source)
     ≡ false) (port : ℕ) : Type 0 where
   pub learn_marked : source < 2 ^ 52 → port ≤ 4
-      → table_of (learned_by (look_up memory source) source port (marked_by (look_up memory destination) memory)).1
+      → table_of (learned_by (found_by (look_up memory source)) source port (marked_by (found_by (look_up memory destination)) memory)).1
       ≡ learn (after_look_up (rule_look_up (table_of memory) false destination) (table_of memory)) source port
-  pub placed_marked : (learned_by (look_up memory source) source port (marked_by (look_up memory destination) memory)).0
+  pub placed_marked : (learned_by (found_by (look_up memory source)) source port (marked_by (found_by (look_up memory destination)) memory)).0
       ≡ not (is_no_place (learning_of (after_look_up (rule_look_up (table_of memory) false destination) (table_of memory))
       source))
 
@@ -80,9 +80,9 @@ pub record LengthTheorems (memory : List ℕ) : Type 0 where
 pub record RangeTheorems (memory : List ℕ) (good : all_in_range memory ≡ true) : Type 0 where
   pub age_is : table_of (aged_by memory).1 ≡ aged (table_of memory)
   pub age_in_range : all_in_range (aged_by memory).1 ≡ true
-  pub mark_in_range : (k : ℕ) → all_in_range (marked_by (look_up memory k) memory) ≡ true
-  pub remove_in_range : (k : ℕ) → all_in_range (removed_by (look_up memory k) memory) ≡ true
+  pub mark_in_range : (k : ℕ) → all_in_range (marked_by (found_by (look_up memory k)) memory) ≡ true
+  pub remove_in_range : (k : ℕ) → all_in_range (removed_by (found_by (look_up memory k)) memory) ≡ true
   pub learn_in_range : (k port : ℕ) → k < 2 ^ 52 → port ≤ 4
-      → all_in_range (learned_by (look_up memory k) k port memory).1 ≡ true
+      → all_in_range (learned_by (found_by (look_up memory k)) k port memory).1 ≡ true
   pub static_in_range : (k port : ℕ) → k < 2 ^ 52 → port ≤ 4
-      → all_in_range (static_by (look_up memory k) k port memory) ≡ true
+      → all_in_range (static_by (found_by (look_up memory k)) k port memory) ≡ true

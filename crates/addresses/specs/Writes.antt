@@ -7,7 +7,7 @@ use Rattle.addresses.specs.Numbers.{static_in, table_of}
 pub use Rattle.addresses.specs.Changes.{learned_number, static_number}
 unfoldable pub use Rattle.addresses.specs.Changes.{marked_number, older_number}
 use Rattle.addresses.specs.declared.LookUp.{LookUp}
-use Rattle.addresses.specs.declared.LookUp.TheVariants.{Found, Vacant, Full, Damaged}
+use Rattle.addresses.specs.declared.LookUp.TheVariants.{Found, Vacant, Full}
 
 -- ---- marking: "a hit marks the entry as used"
 
@@ -15,7 +15,6 @@ unfoldable pub marked_by : LookUp → List ℕ → List ℕ
 marked_by (Found port place) memory = set memory place (marked_number (get_or memory place 0))
 marked_by (Vacant place) memory = memory
 marked_by Full memory = memory
-marked_by Damaged memory = memory
 
 -- ---- learning: was there a place, and the memory
 
@@ -25,7 +24,6 @@ learned_by (Found _ place) k port memory =
     (true, if static_in (get_or memory place 0) then memory else (set memory place (learned_number k port)))
 learned_by (Vacant place) k port memory = (true, set memory place (learned_number k port))
 learned_by Full k port memory = (false, memory)
-learned_by Damaged k port memory = (false, memory)
 
 -- ---- static entries and removal, by call
 
@@ -34,13 +32,11 @@ unfoldable pub static_by : LookUp → ℕ → ℕ → List ℕ → List ℕ
 static_by (Found _ place) k port memory = set memory place (static_number k port)
 static_by (Vacant place) k port memory = set memory place (static_number k port)
 static_by Full k port memory = memory
-static_by Damaged k port memory = memory
 
 unfoldable pub removed_by : LookUp → List ℕ → List ℕ
 removed_by (Found port place) memory = set memory place 0
 removed_by (Vacant place) memory = memory
 removed_by Full memory = memory
-removed_by Damaged memory = memory
 
 -- ---- ageing: "every unmarked non-static entry goes, every marked non-static one loses its mark"
 

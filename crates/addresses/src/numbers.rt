@@ -1,9 +1,12 @@
 // The layout paper, "Address memory": the parts of a number, and the numbers that are written.
-ghost use Rattle.std.specs.Prelude.{◌≡◌, ◌<◌, ◌≤◌, ◌^◌};
+ghost use Rattle.std.specs.Prelude.{◌≡◌};
 ghost use Rattle.rules.specs.Addresses.{goes};
 ghost use Rattle.addresses.specs.Numbers.{port_in, marked_in, static_in, used_in, parts_in_range, in_range, has};
 ghost use Rattle.addresses.specs.Numbers.{entry_of};
 ghost use Rattle.addresses.specs.Changes.{marked_number, learned_number, static_number, older_number};
+
+use crate::keys::Key;
+use layout::ports::Port;
 
 // Bit 0: the mark.
 const MARKED: u64 = 1;
@@ -28,95 +31,100 @@ const LEARNED_ENTRY: u64 = IN_USE + MARKED;
 
 const STATIC_ENTRY: u64 = LEARNED_ENTRY + STATIC;
 
-pub fn is_used(number: u64) -> bool
-    ensures { result ≡ used_in number }
-{
-    number / IN_USE % 2 == 1
-}
+// What stands at a place.
+#[derive(Clone, Copy)]
+pub struct Number(pub u64);
 
-// Of an entry's number: a port of 0 to 4, and zeros above it.
-pub fn parts_in_range(number: u64) -> bool
-    ensures { result ≡ parts_in_range number }
-{
-    number % IN_USE < PARTS
-}
-
-pub fn in_range(number: u64) -> bool
-    ensures { result ≡ in_range number }
-{
-    (number == 0) | (is_used(number) & parts_in_range(number))
-}
-
-// Key and in use stand side by side: one comparison tells a match.
-pub fn is_entry(number: u64, key: u64) -> bool
-    requires { key < 2 ^ 52 }
-    ensures { result ≡ has number key }
-{
-    number / IN_USE == 2 * key + 1
-}
-
-pub fn port_of(number: u64) -> u32
-    ensures { result ≡ port_in number }
-{
-    (number / PORT % 8) as u32
-}
-
-pub fn is_static(number: u64) -> bool
-    ensures { result ≡ static_in number }
-{
-    number / STATIC % 2 == 1
-}
-
-fn is_marked(number: u64) -> bool
-    ensures { result ≡ marked_in number }
-{
-    number % 2 == 1
-}
-
-pub fn marked_number(number: u64) -> u64
-    ensures { result ≡ marked_number number }
-{
-    if is_marked(number) {
-        return number;
+impl Number {
+    #[tactic(auto, unfolding(crate::specs::Numbers::number_of, crate::specs::Numbers::bit, rules::specs::Addresses::learned_entry))]
+    pub fn learned_entry(key: Key, port: Port) -> Number
+        ensures { result.0 ≡ learned_number key.number port.number }
+    {
+        Number(key.number * KEY + LEARNED_ENTRY + port.number as u64 * PORT)
     }
-    number + MARKED
-}
 
-pub fn learned_number(key: u64, port: u32) -> u64
-    requires { (key < 2 ^ 52) × (port ≤ 4) }
-    ensures { result ≡ learned_number key port }
-{
-    key * KEY + LEARNED_ENTRY + port as u64 * PORT
-}
+    #[tactic(auto, unfolding(crate::specs::Numbers::number_of, crate::specs::Numbers::bit, rules::specs::Addresses::static_entry))]
+    pub fn static_entry(key: Key, port: Port) -> Number
+        ensures { result.0 ≡ static_number key.number port.number }
+    {
+        Number(key.number * KEY + STATIC_ENTRY + port.number as u64 * PORT)
+    }
 
-pub fn static_number(key: u64, port: u32) -> u64
-    requires { (key < 2 ^ 52) × (port ≤ 4) }
-    ensures { result ≡ static_number key port }
-{
-    key * KEY + STATIC_ENTRY + port as u64 * PORT
-}
+    pub fn is_used(self) -> bool
+        ensures { result ≡ used_in self.0 }
+    {
+        self.0 / IN_USE % 2 == 1
+    }
 
-// 1 for an entry that ageing removes.
-pub fn goes(number: u64) -> u32
-    ensures { result ≡ goes (entry_of number) }
-{
-    if is_used(number) {
-        if is_static(number) | is_marked(number) {
-            return 0;
+    // Of an entry's number: a port of 0 to 4, and zeros above it.
+    pub fn parts_in_range(self) -> bool
+        ensures { result ≡ parts_in_range self.0 }
+    {
+        self.0 % IN_USE < PARTS
+    }
+
+    #[tactic(auto, unfolding(crate::specs::Numbers::in_range))]
+    pub fn in_range(self) -> bool
+        ensures { result ≡ in_range self.0 }
+    {
+        self.0 == 0 || self.is_used() && self.parts_in_range()
+    }
+
+    // Key and in use stand side by side: one comparison tells a match.
+    #[tactic(auto, unfolding(crate::specs::Numbers::has), using(std::proofs::lemmas::Bool::Decides::nat_tests))]
+    pub fn is_entry(self, key: Key) -> bool
+        ensures { result ≡ has self.0 key.number }
+    {
+        self.0 / IN_USE == 2 * key.number + 1
+    }
+
+    pub fn port(self) -> u32
+        ensures { result ≡ port_in self.0 }
+    {
+        (self.0 / PORT % 8) as u32
+    }
+
+    pub fn is_static(self) -> bool
+        ensures { result ≡ static_in self.0 }
+    {
+        self.0 / STATIC % 2 == 1
+    }
+
+    fn is_marked(self) -> bool
+        ensures { result ≡ marked_in self.0 }
+    {
+        self.0 % 2 == 1
+    }
+
+    #[tactic(auto, unfolding(crate::specs::Changes::marked_number))]
+    pub fn marked(self) -> Number
+        ensures { result.0 ≡ marked_number self.0 }
+    {
+        if self.is_marked() {
+            self
+        } else {
+            Number(self.0 + MARKED)
         }
-        return 1;
     }
-    0
-}
 
-pub fn older_number(number: u64) -> u64
-    ensures { result ≡ older_number number }
-{
-    if is_static(number) {
-        return number;
+    // 1 for an entry that ageing removes.
+    #[tactic(auto, unfolding(rules::specs::Addresses::goes, crate::specs::Numbers::entry_of, crate::specs::Numbers::entry_in))]
+    pub fn goes(self) -> u32
+        ensures { result ≡ goes (entry_of self.0) }
+    {
+        u32::from(self.is_used() && !self.is_static() && !self.is_marked())
     }
-    if is_marked(number) {
-        return number - MARKED;
+
+    #[tactic(auto, unfolding(crate::specs::Changes::older_number))]
+    pub fn older(self) -> Number
+        ensures { result.0 ≡ older_number self.0 }
+    {
+        if self.is_static() {
+            self
+        } else if self.is_marked() {
+            Number(self.0 - MARKED)
+        } else {
+            Number(0)
+        }
     }
-    0
 }

@@ -6,8 +6,8 @@ use Rattle.rules.specs.Numbers.{barred_vid, management_port, bpdu_address}
 use Rattle.rules.specs.Tags.{Tag, tags_of, destination}
 use Rattle.rules.specs.Settings.{Port, is_blocking, is_listening, assigned_vid, queue_pcp}
 use Rattle.rules.specs.Arguments.{OperationNumbers, port_of}
-use Rattle.rules.specs.Reasons.{Reason, tag_count, port_blocking, port_listening, vid4095, no_vlan, reason_number}
-use Rattle.machine.specs.CountTheorems.{outcome_number}
+use Rattle.rules.specs.declared.reasons.Reason.{Reason}
+use Rattle.rules.specs.declared.reasons.Reason.TheVariants.{TagCount as tag_count, PortBlocking as port_blocking, PortListening as port_listening, Vid4095 as vid4095, NoVlan as no_vlan}
 use Rattle.settings.specs.Ports.{port_in, default_of}
 use Rattle.settings.specs.States.{state_in}
 use Rattle.settings.specs.Maps.{bpdu_in, queue_in}
@@ -30,12 +30,9 @@ port_rules port count =
     ∷ line port_listening (is_listening port.state)
     ∷ []
 
--- the first of them by its number, or 0
-abbrev pub barred_by : Port → ℕ → ℕ
-barred_by port count = outcome_number (first (port_rules port count))
-
-unfoldable pub absent_reason : ℕ → ℕ
-absent_reason vid = if eqb vid barred_vid then reason_number vid4095 else reason_number no_vlan
+-- 7 or 8
+unfoldable pub absent_reason : ℕ → Reason
+absent_reason vid = if eqb vid barred_vid then vid4095 else no_vlan
 
 -- "0: the default VID. 1: the outermost tag's. 2: the second tag's"; "PCP of the outermost tag, else the port's default
 -- PCP"
@@ -47,6 +44,6 @@ pub record ToldIs (port : Port) (tags : List Tag) (t : Told) : Type 0 where
 pub record ArrivalIs (port : Port) (map : ℕ) (frame : List ℕ) (a : Arrival) : Type 0 where
   pub default : default_of a.default ≡ port.default
   pub pcp_small : queue_pcp port.default (tags_of frame) ≤ 7
-  pub queue : a.queue ≡ queue_in map (queue_pcp port.default (tags_of frame))
+  pub queue : a.queue.number ≡ queue_in map (queue_pcp port.default (tags_of frame))
   pub vid : a.vid ≡ assigned_vid port.assignment port.default (tags_of frame)
-  pub barred : a.barred ≡ barred_by port (length (tags_of frame))
+  pub barred : a.barred ≡ first (port_rules port (length (tags_of frame)))

@@ -1,6 +1,6 @@
 -- The tests of the five ports as masks of ports: the candidates, those whose state passes, those left; and when masks
 -- are those of the rules' tests. Assumes nothing: these are definitions.
-use Rattle.std.specs.Prelude.{ℕ, ◌*◌, ◌/◌, ◌^◌, ◌<◌, ◌≡◌, Bool, true, false, not, List, eqb, if◌then◌else◌}
+use Rattle.std.specs.Prelude.{ℕ, ◌*◌, ◌/◌, ◌^◌, ◌<◌, ◌≡◌, Bool, true, false, not, List, eqb, Result, Ok, if◌then◌else◌}
 use Rattle.std.specs.Int.Bits.{bit_and}
 use Rattle.rules.specs.Choice.{sift}
 use Rattle.rules.specs.Numbers.{all_ports}
@@ -9,9 +9,10 @@ use Rattle.rules.specs.Addresses.{key}
 use Rattle.rules.specs.Arguments.{bit}
 use Rattle.rules.specs.PortTests.{Test, passes, not_member, arrival, elsewhere, state, queue_off, any_candidate, ports_left}
 use Rattle.layout.specs.Bits.{less}
+use Rattle.layout.specs.declared.damage.Damaged.{Damaged}
 use Rattle.addresses.specs.Search.{look_up}
 use Rattle.addresses.specs.declared.LookUp.{LookUp}
-use Rattle.addresses.specs.declared.LookUp.TheVariants.{Found, Vacant, Full, Damaged}
+use Rattle.addresses.specs.declared.LookUp.TheVariants.{Found, Vacant, Full}
 use Rattle.arrival.specs.declared.plan.Masks.{Masks}
 
 -- all five ports, and port 4 alone
@@ -28,15 +29,14 @@ ports_in mask = sift (bit mask) all_ports
 -- ---- candidates
 
 -- a group address is not looked up
-unfoldable pub destination_look_up : List ℕ → ℕ → ℕ → LookUp
-destination_look_up addresses gid address = if is_group address then Full else look_up addresses (key gid address)
+unfoldable pub destination_look_up : List ℕ → ℕ → ℕ → Result LookUp Damaged
+destination_look_up addresses gid address = if is_group address then Ok Full else look_up addresses (key gid address)
 
 -- "a group address, or one not found, has all members as candidates; one found has its port, if a member"
 unfoldable pub chosen_mask : LookUp → ℕ
 chosen_mask (Found port place) = 2 ^ port
 chosen_mask (Vacant place) = every_port
 chosen_mask Full = every_port
-chosen_mask Damaged = every_port
 
 -- the port that was found is one of the five
 pub record ChosenFits (found : LookUp) : Type 0 where

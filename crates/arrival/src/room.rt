@@ -5,39 +5,54 @@ ghost use Rattle.rules.specs.Cells as rules;
 ghost use Rattle.layout.specs.Places.{link_words};
 ghost use Rattle.arrival.specs.Room.{plan_offered};
 
-use crate::plan::{Lesson, Offer, Plan, damaged_plan, offer_plan};
-use cells::free::Room;
-use layout::reasons::{NO_PORT_LEFT, NO_ROOM};
+use crate::plan::{Lesson, Offer, Plan};
+use layout::cell_count::CellCount;
+use layout::damage::Damaged;
 use layout::{CELL_SIZE, STORED_HEADER};
+use rules::reasons::Reason;
 
-// The last byte of a cell.
-const LAST_BYTE: usize = CELL_SIZE - 1;
+// To round a length with its header up to cells.
+const ROUND_UP: usize = STORED_HEADER + CELL_SIZE - 1;
 
 // "The least whole number of cells holding n + 8 bytes."
 pub fn cells_of(long: usize) -> usize
     requires { long ≤ longest }
     ensures { result ≡ rules.cells long }
 {
-    (long + STORED_HEADER + LAST_BYTE) / CELL_SIZE
+    (long + ROUND_UP) / CELL_SIZE
 }
 
-pub fn offered_plan(links: &[u32], n: usize, long: usize, lesson: Lesson, offer: Offer) -> Plan
-    requires { (link_words n ≤ length links.now) × (long ≤ longest) × (offer.queue ≤ 3) }
-    ensures { result ≡ plan_offered n links.now long lesson offer }
+#[inline(always)]
+#[tactic(auto, unfolding(crate::specs::Room::plan_offered, crate::specs::Room::with_room))]
+pub fn offered_plan(
+    links: &[u32],
+    n: CellCount,
+    long: usize,
+    lesson: Option<Lesson>,
+    offer: Offer,
+) -> Result<Plan, Damaged>
+    requires { (link_words n.number ≤ length links.now) × (long ≤ longest) }
+    ensures { result ≡ plan_offered n.number links.now long lesson offer }
 {
     let masks = offer.masks;
-    let left = masks.left;
-    if left == 0 {
-        return offer_plan(NO_PORT_LEFT, lesson, offer, 0);
+    if masks.left == 0 {
+        let reason = Reason::NoPortLeft;
+        return Ok(Plan::Drop {
+            lesson,
+            masks,
+            reason,
+        });
     }
-    match cells::free::can_take(links, n, cells_of(long)) {
-        Room::Damaged => damaged_plan(),
-        Room::NoRoom => offer_plan(NO_ROOM, lesson, offer, 0),
-        Room::Enough => {
-            if queues::all_in_range(links) {
-                return offer_plan(0, lesson, offer, left);
-            }
-            damaged_plan()
-        }
+    if !cells::free::can_take(links, n, cells_of(long))? {
+        let reason = Reason::NoRoom;
+        return Ok(Plan::Drop {
+            lesson,
+            masks,
+            reason,
+        });
     }
+    if queues::all_in_range(links) {
+        return Ok(Plan::Queue { lesson, offer });
+    }
+    Err(Damaged)
 }

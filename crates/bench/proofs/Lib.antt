@@ -1,7 +1,4 @@
-pub mod Transferring
-pub mod Taking
 pub mod Reading
-pub mod Lining
 pub mod Outside
 pub mod Acting
 pub mod Carrying

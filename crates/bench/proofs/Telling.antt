@@ -4,7 +4,7 @@ use lib.Seq.{take-nil}
 use Rattle.rules.proofs.ByteLists.{append_bytes, take_bytes, drop_bytes}
 use Rattle.rules.specs.Tags.{Bytes}
 use Rattle.rules.specs.Cells.{largest_result}
-use Rattle.rules.specs.Refusals.{bad_record}
+use Rattle.rules.specs.declared.refusals.Refusal.TheVariants.{BadRecord as bad_record}
 use Rattle.rules.proofs.Choice.{on, and_false}
 use Rattle.machine.specs.State.{State}
 use Rattle.machine.specs.History.{fresh}

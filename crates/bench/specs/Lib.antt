@@ -1,7 +1,7 @@
 pub mod Transfers
 pub mod Outside
-pub mod Steady
 pub mod Carried
+pub mod Switches
 pub mod Progressing
 pub mod Told
 pub mod Sessions

@@ -3,7 +3,7 @@
 use Rattle.std.specs.Prelude.{◌≡◌, ℕ, zero, suc, ◌+◌, ◌≤◌, Bool, true, false, not, ◌&&◌, ◌||◌, List, [], ◌++◌, length, take, drop, ◌==◌}
 use Rattle.rules.specs.Tags.{Bytes}
 use Rattle.rules.specs.Cells.{largest_result}
-use Rattle.rules.specs.Refusals.{bad_record}
+use Rattle.rules.specs.declared.refusals.Refusal.TheVariants.{BadRecord as bad_record}
 use Rattle.layout.specs.declared.answers.Answer.{Answer}
 use Rattle.layout.specs.Answers.{refused_by}
 use Rattle.records.specs.Reading.{kind_of}

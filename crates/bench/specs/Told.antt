@@ -1,8 +1,9 @@
 -- The lines that the machine tells of an input: record after record, to the end of the input or to the record that ends
 -- the run. What the bench program writes is held to this. Assumes nothing: these are definitions.
-use Rattle.std.specs.Prelude.{◌≡◌, ℕ, ◌+◌, true, List, [], ◌++◌, drop}
+use Rattle.std.specs.Prelude.{◌≡◌, ℕ, ◌+◌, true, List, [], ◌++◌, drop, Result, Ok, Err}
 use Rattle.rules.specs.Cells.{largest_result}
-use Rattle.rules.specs.Refusals.{bad_record}
+use Rattle.rules.specs.declared.refusals.Refusal.{Refusal}
+use Rattle.rules.specs.declared.refusals.Refusal.TheVariants.{BadRecord as bad_record}
 use Rattle.machine.specs.State.{State, Step}
 use Rattle.machine.specs.Machine.{perform, next}
 use Rattle.layout.specs.declared.answers.Answer.{Answer}
@@ -12,8 +13,7 @@ use Rattle.records.specs.Requests.{request_of}
 use Rattle.records.specs.Lines.{line_of}
 use Rattle.records.specs.Framing.{next_of}
 use Rattle.records.specs.declared.framing.Next.TheVariants.{Finished, Cut, Whole}
-use Rattle.records.specs.declared.requests.Request.{Request}
-use Rattle.records.specs.declared.requests.Request.TheVariants.{Asked, Bad}
+use Rattle.settings.specs.declared.call.Call.{Call}
 use Rattle.gufhrandi.specs.Asked.{asked}
 use Rattle.standing.specs.Follows.{numbers_of}
 use Rattle.bench.specs.Progressing.{number_after, record_in}
@@ -23,9 +23,9 @@ abbrev pub stepped : State → Step → Answer × State
 stepped s step = (numbers_of step.answer, next s step)
 
 -- what the machine answers to a record, whose bytes stand here without its length; a bad record is refused and skipped
-unfoldable pub answered : State → List ℕ → Request → Answer × State
-answered s bytes (Asked call) = stepped s (perform s (asked (drop 3 bytes) largest_result call))
-answered s bytes Bad = (refused_by bad_record, s)
+unfoldable pub answered : State → List ℕ → Result Call Refusal → Answer × State
+answered s bytes (Ok call) = stepped s (perform s (asked (drop 3 bytes) largest_result call))
+answered s bytes (Err refusal) = (refused_by refusal, s)
 
 abbrev pub reply : State → List ℕ → Answer × State
 reply s bytes = answered s bytes (request_of bytes)

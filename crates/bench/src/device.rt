@@ -1,92 +1,33 @@
 // Reading and writing bytes: the one module that calls the reader and the writer.
-ghost use Rattle.std.specs.Prelude.{◌≡◌, ◌↔◌, ◌⊎◌, IsTrue, IsSome, if◌then◌else◌, None, Some, ◌+◌, ◌-◌, ◌<◌, ◌≤◌, length, take, drop};
-ghost use Rattle.std.specs.Io.KnownBytes.{Consumes, Appends, IsAtEnd};
-ghost use Rattle.bench.specs.Transfers.{outcome_of, Fits, moved_of};
+ghost use Rattle.std.specs.Prelude.{◌≡◌, ◌↔◌, IsTrue, IsSome, IfOk, IfErr, ◌<◌, ◌≤◌, length, take};
+ghost use Rattle.std.specs.Io.{ReadsAtMost, WritesAtMost};
+ghost use Rattle.std.specs.Io.KnownBytes.{ReadConsumes, WriteAppends, Appends};
+ghost use Rattle.std.specs.IoError.{error_kind};
+ghost use Rattle.bench.specs.Transfers.{IsPassing};
 
-use std::io::{Error, ErrorKind, Read, Write};
+use std::io::{Error, ErrorKind, Read, Result, Write};
 use std::thread::yield_now;
-
-// What the run reads from.
-#[derive(Drop)]
-pub struct Source<R> {
-    reader: R,
-    // Why reading failed, if it did.
-    error: Option<Error>,
-}
-
-impl<R> Source<R> {
-    pub fn new(reader: R) -> Source<R>
-        ensures { result ≡ record { reader = reader; error = None } }
-    {
-        Source {
-            reader,
-            error: None,
-        }
-    }
-
-    pub fn error(&self) -> Option<Error>
-        ensures { result ≡ self.now.error }
-    {
-        self.error
-    }
-}
-
-// What the run writes to.
-#[derive(Drop)]
-pub struct Sink<W> {
-    writer: W,
-    // Why writing failed, if it did.
-    error: Option<Error>,
-}
-
-impl<W> Sink<W> {
-    pub fn new(writer: W) -> Sink<W>
-        ensures { result ≡ record { writer = writer; error = None } }
-    {
-        Sink {
-            writer,
-            error: None,
-        }
-    }
-
-    pub fn error(&self) -> Option<Error>
-        ensures { result ≡ self.now.error }
-    {
-        self.error
-    }
-}
-
-// What came of one read or one write.
-#[derive(Clone, Copy)]
-pub enum Transfer {
-    // So many bytes were moved, at least one.
-    Bytes(usize),
-    // None: a read has met the end of the input.
-    Nothing,
-    // A signal came first, or a device that does not wait has none now: to be tried again.
-    Again,
-    Failed,
-}
 
 // What came of reading. No other module can make one: whoever has it has read.
 #[derive(Clone, Copy)]
 pub struct Received {
-    what: Transfer,
+    what: Result<usize>,
 }
 
 impl Received {
-    pub fn told(self) -> Transfer
+    pub fn told(self) -> Result<usize>
         ensures { result ≡ self.what }
     {
-        let what = self.what;
-        what
+        self.what
     }
 }
 
-// How many bytes were written. No other module can make one: whoever has it has written.
+// How many bytes were written, and the error that ended it, if one did. No other module can make one: whoever has it has
+// written.
 #[derive(Clone, Copy)]
 pub struct Sent {
     bytes: usize,
+    error: Option<Error>,
 }
 
 impl Sent {
@@ -95,146 +36,73 @@ impl Sent {
     {
         self.bytes
     }
+
+    pub fn error(self) -> Option<Error>
+        ensures { result ≡ self.error }
+    {
+        self.error
+    }
 }
 
 // The errors after which a call is tried again: a signal came first, or nothing can be moved now.
 fn is_passing(error: ErrorKind) -> bool
-    ensures { IsTrue result
-        ↔ ((error ≡ ErrorKind.Interrupted) ⊎ (error ≡ ErrorKind.WouldBlock)) }
+    ensures { IsTrue result ↔ IsPassing error }
 {
-    error == ErrorKind::Interrupted || error == ErrorKind::WouldBlock
+    matches!(error, ErrorKind::Interrupted | ErrorKind::WouldBlock)
 }
 
-// The error that ends the run: none where the call is tried again.
-fn to_tell(error: Error, passing: bool) -> Option<Error>
-    ensures { result ≡ (if passing then None else Some error) }
-{
-    if passing { None } else { Some(error) }
-}
-
-// `got` is what the call answered, `n` how many bytes that is, `passing` whether its error passes.
-fn outcome(got: isize, n: usize, passing: bool) -> Transfer
-    ensures { result ≡ outcome_of got n passing }
-{
-    if 0 < n {
-        return Transfer::Bytes(n);
-    }
-    if 0 <= got {
-        return Transfer::Nothing;
-    }
-    if passing {
-        return Transfer::Again;
-    }
-    Transfer::Failed
-}
-
-// One read into the buffer from place `from` on.
-fn read_once<R: Read>(source: &mut Source<R>, input: &mut [u8], from: usize) -> Transfer
-    requires { from < length input.old }
-    ensures fits { Fits result (length input.old - from)
-        × (take from input.new ≡ take from input.old) }
-    ensures bytes { Consumes (R.remaining source.old.reader) (R.remaining source.new.reader)
-        (moved_of result (drop from input.new)) }
-    ensures end { result ≡ Transfer.Nothing → IsAtEnd (R.remaining source.new.reader) }
-    ensures told { result ≡ Transfer.Failed → IsSome source.new.error }
-{
-    match source.reader.read(&mut input[from..]) {
-        Ok(n) => outcome(n as isize, n, false),
-        Err(error) => {
-            let passing = is_passing(error.kind());
-            source.error = to_tell(error, passing);
-            outcome(-1, 0, passing)
-        }
-    }
-}
-
-// Reads into the buffer from place `from` on: bytes, nothing at the end of the input, or a failure, which the source
-// keeps to be told.
-pub fn receive<R: Read>(source: &mut Source<R>, input: &mut [u8], from: usize) -> Received
-    requires { from < length input.old }
-    ensures fits { Fits result.what (length input.old - from)
-        × (take from input.new ≡ take from input.old) }
-    ensures bytes { Consumes (R.remaining source.old.reader) (R.remaining source.new.reader)
-        (moved_of result.what (drop from input.new)) }
-    ensures end { result.what ≡ Transfer.Nothing → IsAtEnd (R.remaining source.new.reader) }
+// Reads into the buffer: bytes, none at the end of the input, or the error that ends the run.
+pub fn receive<R: Read>(reader: &mut R, input: &mut [u8]) -> Received
+    ensures fits { ReadsAtMost result.what input.new }
+    ensures bytes { ReadConsumes (R.remaining reader.old) (R.remaining reader.new) result.what
+        input.new }
+    ensures told { IfErr result.what (λ e. ¬ (IsPassing (error_kind e))) }
 {
     for _turn in 0..u64::MAX {
-        let came = read_once(source, input, from);
-        match came {
-            Transfer::Again => {
-                yield_now();
-            }
-            _ => {
-                return Received { what: came };
-            }
+        match reader.read(input) {
+            Err(error) if is_passing(error.kind()) => yield_now(),
+            what => return Received { what },
         }
     }
     Received {
-        what: Transfer::Failed,
+        what: Err(Error::from(ErrorKind::TimedOut)),
     }
 }
 
-// One write of the text's places `from` to `to`.
-fn write_once<W: Write>(sink: &mut Sink<W>, text: &[u8], from: usize, to: usize) -> Transfer
-    requires { (from ≤ to) × (to ≤ length text.now) }
-    ensures fits { Fits result (to - from) }
-    ensures bytes { Appends (W.contents sink.old.writer) (W.contents sink.new.writer)
-        (moved_of result (drop from text.now)) }
-    ensures told { result ≡ Transfer.Failed → IsSome sink.new.error }
-{
-    match sink.writer.write(&text[from..to]) {
-        Ok(n) => outcome(n as isize, n, false),
-        Err(error) => {
-            let passing = is_passing(error.kind());
-            sink.error = to_tell(error, passing);
-            outcome(-1, 0, passing)
-        }
-    }
-}
-
-// Writes of the text's places `from` to `to`, and answers how many bytes were written: none if writing failed, which
-// the sink keeps to be told.
-fn write_some<W: Write>(sink: &mut Sink<W>, text: &[u8], from: usize, to: usize) -> usize
-    requires { (from ≤ to) × (to ≤ length text.now) }
-    ensures fits { from + result ≤ to }
-    ensures bytes { Appends (W.contents sink.old.writer) (W.contents sink.new.writer)
-        (take result (drop from text.now)) }
+// Writes the first bytes of the text, and answers how many: not none.
+fn write_some<W: Write>(writer: &mut W, text: &[u8]) -> Result<usize>
+    ensures some { IfOk result (λ n. (1 ≤ n) × (n ≤ length text.now)) }
+    ensures bytes { WriteAppends (W.contents writer.old) (W.contents writer.new) result text.now }
+    ensures told { IfErr result (λ e. ¬ (IsPassing (error_kind e))) }
 {
     for _turn in 0..u64::MAX {
-        let put = write_once(sink, text, from, to);
-        match put {
-            Transfer::Bytes(n) => {
-                return n;
-            }
-            Transfer::Again => {
-                yield_now();
-            }
-            Transfer::Nothing => {
-                sink.error = Some(Error::from(ErrorKind::WriteZero));
-                return 0;
-            }
-            Transfer::Failed => {
-                return 0;
-            }
+        match writer.write(text) {
+            Ok(0) => return Err(Error::from(ErrorKind::WriteZero)),
+            Err(failure) if is_passing(failure.kind()) => yield_now(),
+            put => return put,
         }
     }
-    0
+    Err(Error::from(ErrorKind::TimedOut))
 }
 
-// Writes the first bytes of the text, and answers how many were written: all of them, unless writing failed.
-pub fn send<W: Write>(sink: &mut Sink<W>, text: &[u8], used: usize) -> Sent
-    requires { used ≤ length text.now }
-    ensures fits { result.bytes ≤ used }
-    ensures bytes { Appends (W.contents sink.old.writer) (W.contents sink.new.writer)
+// Writes the text: all of it, unless writing failed.
+pub fn send<W: Write>(writer: &mut W, text: &[u8]) -> Sent
+    ensures fits { result.bytes ≤ length text.now }
+    ensures bytes { Appends (W.contents writer.old) (W.contents writer.new)
         (take result.bytes text.now) }
+    ensures whole { IsSome result.error ↔ (result.bytes < length text.now) }
 {
-    let mut done = 0;
-    while done < used {
-        let put = write_some(sink, text, done, used);
-        if put == 0 {
-            return Sent { bytes: done };
+    let mut bytes = 0;
+    while bytes < text.len() {
+        match write_some(writer, &text[bytes..]) {
+            Ok(n) => bytes += n,
+            Err(error) => {
+                return Sent {
+                    bytes,
+                    error: Some(error),
+                };
+            }
         }
-        done += put;
     }
-    Sent { bytes: done }
+    Sent { bytes, error: None }
 }

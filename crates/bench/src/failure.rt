@@ -1,7 +1,13 @@
-// What is said of a failed read or write.
+// What ends a run before its input ends.
 use arrayvec::ArrayString;
 use std::fmt::Write;
 use std::io::Error;
+
+#[derive(Clone, Copy)]
+pub enum Failure {
+    Reading(Error),
+    Writing(Error),
+}
 
 // In the system's words alone: without the error's number, which the library puts behind them.
 fn words_of(error: Error) -> ArrayString<128> {
@@ -14,11 +20,13 @@ fn words_of(error: Error) -> ArrayString<128> {
     }
 }
 
-// A line on standard error, if there was an error.
-pub fn tell(rt: &impl Eprint, what: &str, error: Option<Error>) {
-    if let Some(error) = error {
-        let words = words_of(error);
-        // Where nothing can be written there, the exit status tells alone.
-        let _ = eprintln!(rt; "bench: {what}: {words}");
-    }
+// A line on standard error.
+pub fn tell(rt: &impl Eprint, failure: Failure) {
+    let (what, error) = match failure {
+        Failure::Reading(error) => ("reading", error),
+        Failure::Writing(error) => ("writing", error),
+    };
+    let words = words_of(error);
+    // Where nothing can be written there, the exit status tells alone.
+    let _ = eprintln!(rt; "bench: {what}: {words}");
 }

@@ -1,59 +1,92 @@
-// Reading more of the input.
-ghost use Rattle.std.specs.Prelude.{◌≡◌, ◌≤◌, length};
-ghost use Rattle.records.specs.declared.framing.Next.TheVariants.{More};
-ghost use Rattle.bench.specs.Progressing.{next_at, Refilled};
+// The input: what was read and not yet taken.
+ghost use Rattle.std.specs.Prelude.{◌≡◌, ◌≤◌};
+ghost use Rattle.bench.specs.declared.input.TheConstants.{SIZE};
 
-use crate::device::{Source, Transfer, receive};
-use crate::progress::Progress;
+use crate::device::receive;
 use gufhrandi::handed::is_bytes;
-use std::io::Read;
+use records::{Next, next_in};
+use std::io::{Read, Result};
 
-// What was read and not yet taken moves to the front of the buffer, and what comes stands behind it. A buffer of 65,537
-// bytes has room then: full, it never asks for more.
-pub fn refill<R: Read>(source: &mut Source<R>, input: &mut [u8], p: Progress) -> Progress
-    requires { (p.at ≤ p.end) × (p.end ≤ length input.old) × (65537 ≤ length input.old)
-        × (next_at input.old p ≡ More) }
-    ensures { Refilled p input.old input.new (R.remaining source.old.reader)
-        (R.remaining source.new.reader) result }
-{
-    let at = p.at;
-    let end = p.end;
-    is_bytes(&input[at..end]);
-    records::move_to_front(input, at, end);
-    let kept = end - at;
-    let received = receive(source, input, kept);
-    is_bytes(input);
-    let came = received.told();
-    match came {
-        Transfer::Bytes(n) => Progress {
+// More than twice the longest record. One of 65,537 bytes has room for each: full, it never asks for more.
+const SIZE: usize = 131072;
+
+#[derive(Drop)]
+pub struct Input {
+    buffer: [u8; SIZE],
+    // What was read and not yet taken are these places of it.
+    at: usize,
+    end: usize,
+    // There is no more of it.
+    ended: bool,
+    ghost from: { at ≤ end },
+    ghost to: { end ≤ SIZE },
+}
+
+impl Input {
+    ghost use Rattle.std.specs.Prelude.{◌≡◌, ◌+◌, ◌≤◌, false, [], length, drop};
+    ghost use Rattle.records.specs.declared.framing.Next.TheVariants.{More};
+    ghost use Rattle.bench.specs.Progressing.{waiting, next_at, record_in, Passed, Refilled};
+
+    #[tactic(auto, unfolding(crate::specs::Progressing::waiting))]
+    pub fn new() -> Input
+        ensures { (waiting result ≡ []) × (result.ended ≡ false) }
+    {
+        Input {
+            buffer: [0; SIZE],
             at: 0,
-            end: kept + n,
-            used: p.used,
-            sent: p.sent,
-            number: p.number,
-            ended: p.ended,
-            on: p.on,
-            failed: p.failed,
-        },
-        Transfer::Nothing => Progress {
-            at: 0,
-            end: kept,
-            used: p.used,
-            sent: p.sent,
-            number: p.number,
-            ended: true,
-            on: p.on,
-            failed: p.failed,
-        },
-        _ => Progress {
-            at: 0,
-            end: kept,
-            used: p.used,
-            sent: p.sent,
-            number: p.number,
-            ended: p.ended,
-            on: false,
-            failed: true,
-        },
+            end: 0,
+            ended: false,
+        }
+    }
+
+    #[tactic(auto, unfolding(crate::specs::Progressing::waiting))]
+    fn waiting(&self) -> &[u8]
+        ensures { result.now ≡ waiting self.now }
+    {
+        &self.buffer[self.at..self.end]
+    }
+
+    // What comes next in it.
+    pub fn next(&self) -> Next
+        ensures { result ≡ next_at self.now }
+    {
+        next_in(self.waiting(), self.ended)
+    }
+
+    // The record of this length, which stands behind the two bytes of its length.
+    pub fn record(&self, long: usize) -> &[u8]
+        requires { 2 + long ≤ length (waiting self.now) }
+        ensures { result.now ≡ record_in (waiting self.now) long }
+    {
+        &self.waiting()[2..2 + long]
+    }
+
+    // That record is taken.
+    #[tactic(auto, using(crate::proofs::Reading::behind_is), unfolding(crate::specs::Progressing::waiting))]
+    pub fn pass(&mut self, long: usize)
+        requires { 2 + long ≤ length (waiting self.old) }
+        ensures { Passed self.old self.new long }
+    {
+        self.at += 2 + long;
+    }
+
+    // What was read and not yet taken moves to the front of the buffer, and what comes stands behind it.
+    #[tactic(auto, unfolding(crate::specs::Progressing::waiting))]
+    pub fn refill<R: Read>(&mut self, reader: &mut R) -> Result<()>
+        requires { next_at self.old ≡ More }
+        ensures { Refilled self.old self.new (R.remaining reader.old) (R.remaining reader.new) result }
+    {
+        is_bytes(self.waiting());
+        let (at, end) = (self.at, self.end);
+        self.buffer.copy_within(at..end, 0);
+        self.at = 0;
+        self.end = end - at;
+        let room = &mut self.buffer[end - at..];
+        let received = receive(reader, room);
+        is_bytes(room);
+        let n = received.told()?;
+        self.end += n;
+        self.ended = n == 0;
+        Ok(())
     }
 }

@@ -1,50 +1,67 @@
 // The lines, gathered before they are written.
-ghost use Rattle.std.specs.Prelude.{◌≡◌, ◌+◌, ◌≤◌, length};
-ghost use Rattle.bench.specs.Progressing.{Flushed, lined};
+ghost use Rattle.std.specs.Prelude.{◌≡◌, ◌+◌, ◌≤◌, [], length, IsTrue, ◌↔◌};
+ghost use Rattle.arrayvec.specs.ArrayString.{array_string_len};
+ghost use Rattle.bench.specs.Progressing.{Lined, Flushed};
 
-use crate::device::{Sink, send};
-use crate::progress::Progress;
+use crate::device::send;
+use arrayvec::ArrayString;
 use layout::answers::Answer;
-use std::io::Write;
-use std::num::wrapping_add_u64;
+use std::io::{Result, Write};
 
-// Writes the lines that wait. Where that fails the run ends: a line behind a gap would tell of another record.
-pub fn flush<W: Write>(sink: &mut Sink<W>, text: &[u8], p: Progress) -> Progress
-    requires { p.used ≤ length text.now }
-    ensures { Flushed p result text.now (W.contents sink.old.writer) (W.contents sink.new.writer) }
-{
-    let sent = send(sink, text, p.used);
-    let done = sent.count();
-    let whole = done == p.used;
-    Progress {
-        at: p.at,
-        end: p.end,
-        used: 0,
-        sent: wrapping_add_u64(p.sent, done as u64),
-        number: p.number,
-        ended: p.ended,
-        on: p.on & whole,
-        failed: p.failed | !whole,
-    }
+#[derive(Drop)]
+pub struct Lines {
+    // Those that wait to be written.
+    waiting: ArrayString<65536>,
+    // How many there are.
+    number: u64,
+    // How many bytes of them were written.
+    sent: u64,
 }
 
-// A line behind the others: the next number, a kind and an answer.
-pub fn put_line(text: &mut [u8], p: Progress, kind: u32, answer: Answer) -> Progress
-    requires { p.used + 64 ≤ length text.old }
-    ensures text_after { (result, text.new) ≡ lined text.old p kind answer }
-    ensures used_in_bounds { result.used ≤ length text.old }
-{
-    let at = p.used;
-    let number = wrapping_add_u64(p.number, 1);
-    let long = records::line(&mut text[at..], number, kind, answer);
-    Progress {
-        at: p.at,
-        end: p.end,
-        used: at + long,
-        sent: p.sent,
-        number,
-        ended: p.ended,
-        on: p.on,
-        failed: p.failed,
+impl Lines {
+    pub fn new() -> Lines
+        ensures { (result.waiting.bytes ≡ []) × (result.number ≡ 0) × (result.sent ≡ 0) }
+    {
+        Lines {
+            waiting: ArrayString::new(),
+            number: 0,
+            sent: 0,
+        }
+    }
+
+    pub fn wait(&self) -> bool
+        ensures { IsTrue result ↔ (1 ≤ length self.now.waiting.bytes) }
+    {
+        !self.waiting.is_empty()
+    }
+
+    // Is there room for any line?
+    pub fn have_room(&self) -> bool
+        ensures { IsTrue result ↔ (length self.now.waiting.bytes + 64 ≤ 65536) }
+    {
+        64 <= self.waiting.remaining_capacity()
+    }
+
+    // A line behind the others: the next number, a kind and an answer.
+    pub fn put(&mut self, kind: u16, answer: Answer)
+        requires { length self.old.waiting.bytes + 64 ≤ 65536 }
+        ensures { Lined self.old self.new kind answer }
+    {
+        self.number = self.number.wrapping_add(1);
+        let line = records::line(self.number, kind, answer);
+        self.waiting.push_str(line.as_str());
+    }
+
+    // Writes the lines that wait.
+    pub fn flush<W: Write>(&mut self, writer: &mut W) -> Result<()>
+        ensures { Flushed self.old self.new (W.contents writer.old) (W.contents writer.new) result }
+    {
+        let sent = send(writer, self.waiting.as_bytes());
+        self.waiting.clear();
+        self.sent = self.sent.wrapping_add(sent.count() as u64);
+        match sent.error() {
+            Some(error) => Err(error),
+            None => Ok(()),
+        }
     }
 }

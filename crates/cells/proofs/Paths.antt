@@ -20,7 +20,7 @@ module _ (n : ℕ) where
   follow_split l zero b c = rw zero-add
   follow_split l (suc a) b c = rw (suc-add, follow_split l a b (next n l c))
 
-  walk_more : (l : List ℕ) (k c : ℕ) → walk n l (suc k) c ≡ next n l (walk n l k c)
+  pub walk_more : (l : List ℕ) (k c : ℕ) → walk n l (suc k) c ≡ next n l (walk n l k c)
   walk_more l zero c = refl
   walk_more l (suc k) c = walk_more l k (next n l c)
 

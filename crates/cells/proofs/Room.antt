@@ -1,13 +1,13 @@
 -- In sound link memory every cell is counted, and no test before taking or giving back finds damage. Assumes nothing.
 use mathlib.Core.Path.{◌≡◌, ap, ◌∙◌}
-use mathlib.Core.Bool.{true}
+use mathlib.Core.Bool.{true, false}
 use mathlib.Core.List.{List}
 use Prim.Native.Nat.{ℕ, ◌+◌, ◌≤◌, ◌<◌}
 use native.Mathlib.Omega.{arith}
 use lib.ListN.{length}
 use borrow.Author.Tests.{le-leb, lt-leb, lt-ltb}
 use Rattle.layout.specs.Counting.{times, one}
-use Rattle.cells.specs.declared.free.Room.TheVariants.{Enough, NoRoom}
+use Rattle.std.specs.Prelude.{Ok as ok}
 use Rattle.cells.specs.Free.{free_count, first_free, size_of, ports_of, free_cells, room_for, is_frame, can_give_back}
 use Rattle.cells.specs.Sound.{waiting_cells, all_waiting, Sound}
 use Rattle.cells.proofs.Counts.{all_below, counted_below}
@@ -37,13 +37,13 @@ module _ (n : ℕ) (l : List ℕ) (sound : Sound n l) where
         total_ones n,
       )
 
-  pub room_enough : (k : ℕ) → k ≤ free_count l → room_for n k l ≡ Enough
+  pub room_enough : (k : ℕ) → k ≤ free_count l → room_for n k l ≡ ok true
   unfolding room_for
   room_enough k h =
       let few : free_count l ≤ n = omega (arith, all_cells) in
       rw (le-leb (free_count l) n few, le-leb k (free_count l) h, lt-ltb (first_free l) n sound.first)
 
-  pub room_none : (k : ℕ) → free_count l < k → room_for n k l ≡ NoRoom
+  pub room_none : (k : ℕ) → free_count l < k → room_for n k l ≡ ok false
   unfolding room_for
   room_none k h =
       let few : free_count l ≤ n = omega (arith, all_cells) in

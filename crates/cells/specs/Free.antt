@@ -1,11 +1,11 @@
 -- The layout paper, "a record of 20 words for each cell": the free cells, the cells of a frame, taking and giving back.
 -- Assumes nothing.
-use Rattle.std.specs.Prelude.{ℕ, ◌+◌, ◌-◌, ◌*◌, ◌/◌, ◌%◌, Bool, ◌&&◌, List, get_or, set, leb, ltb, if◌then◌else◌}
+use Rattle.std.specs.Prelude.{ℕ, ◌+◌, ◌-◌, ◌*◌, ◌/◌, ◌%◌, Bool, true, false, ◌&&◌, List, get_or, set, leb, ltb, if◌then◌else◌}
+use Rattle.std.specs.Prelude.{Result, Ok as ok, Err as err}
 use Rattle.rules.specs.Cells.{cells, longest}
 use Rattle.layout.specs.Places.{free_count_word, first_free_word, frame_word, size_unit, next_word}
+use Rattle.layout.specs.declared.damage.Damaged.{Damaged}
 use Rattle.cells.specs.Chains.{follow, walk, behind}
-use Rattle.cells.specs.declared.free.Room.{Room}
-use Rattle.cells.specs.declared.free.Room.TheVariants.{Enough, NoRoom, Damaged}
 
 -- ---- fields
 
@@ -39,11 +39,15 @@ last_cell n links c = walk n links (size_of links c - 1) c
 
 -- ---- taking
 
-unfoldable pub room_for : ℕ → ℕ → List ℕ → Room
+abbrev damaged : Result Bool Damaged
+damaged = err (record {})
+
+-- is there room for a frame of k cells?
+unfoldable pub room_for : ℕ → ℕ → List ℕ → Result Bool Damaged
 room_for n k links =
     if leb (free_count links) n
-    then (if leb k (free_count links) then (if ltb (first_free links) n then Enough else Damaged) else NoRoom)
-    else Damaged
+    then (if leb k (free_count links) then (if ltb (first_free links) n then ok true else damaged) else ok false)
+    else damaged
 
 -- "the first free cell becomes the next word of the k-th"
 unfoldable pub taken : ℕ → ℕ → ℕ → List ℕ → List ℕ

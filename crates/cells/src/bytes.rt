@@ -8,130 +8,103 @@ ghost use Rattle.cells.specs.Chains.{follow, walk};
 ghost use Rattle.cells.specs.Bytes.{store_from, load_cells, load_from, cells_for};
 ghost use Rattle.cells.specs.Stored.{stored_bytes};
 
-use crate::chains::next;
+use crate::chains::{next, next_at};
 use crate::stored::{StoredHeader, write_header};
-use layout::{CELL_SIZE, CELL_STRIDE, FIRST_PART, NEXT, STORED_HEADER, below};
+use layout::cell_count::CellCount;
+use layout::{CELL_SIZE, FIRST_PART, STORED_HEADER};
 
-// What follows the first 72 bytes of a frame into the cells from c on. Answers the next word of the last of them.
-fn store_rest(cells: &mut [u8], links: &[u32], n: usize, c: usize, frame: &[u8]) -> u32
-    requires { (link_words n ≤ length links.now) × (cell_bytes n ≤ length cells.old) × (c < n)
-        × (first_part < length frame.now) }
+// At least one byte into the cells from c on. Answers the next word of the last of them.
+#[tactic(auto, using(crate::proofs::Turns::store_goes_on, crate::proofs::Turns::store_ends))]
+fn store_rest(cells: &mut [u8], links: &[u32], n: CellCount, c: usize, bytes: &[u8]) -> u32
+    requires { (link_words n.number ≤ length links.now) × (cell_bytes n.number ≤ length cells.old) × (c < n.number)
+        × (0 < length bytes.now) }
     ensures { (result, cells.new)
-        ≡ store_from n links.now (cells_for (length frame.now - first_part)) c
-        (drop first_part frame.now) cells.old }
+        ≡ store_from n.number links.now (cells_for (length bytes.now)) c bytes.now cells.old }
 {
     let mut at = c;
-    let mut done = FIRST_PART;
-    while done + CELL_SIZE < frame.len() {
-        slices::copy_cell(cells, CELL_SIZE * at, frame, done);
+    let mut rest = bytes;
+    while CELL_SIZE < rest.len() {
+        slices::copy_block::<CELL_SIZE>(cells, CELL_SIZE * at, rest, 0);
         at = next(links, n, at);
-        done += CELL_SIZE;
+        let (_, more) = rest.split_at(CELL_SIZE);
+        rest = more;
     }
-    slices::copy(cells, CELL_SIZE * at, &frame[done..]);
-    links[NEXT + CELL_STRIDE * at]
+    slices::copy(cells, CELL_SIZE * at, rest);
+    links[next_at(at)]
 }
 
 // A frame, its stored header before it, into the cells from first on. Answers the next word of the last of them.
+#[inline(always)]
+#[tactic(auto, using(crate::proofs::Turns::store_short, crate::proofs::Turns::store_long, crate::proofs::Headers::stored_length))]
 pub fn store(
     cells: &mut [u8],
     links: &[u32],
-    n: usize,
+    n: CellCount,
     first: u32,
     header: StoredHeader,
     frame: &[u8],
 ) -> u32
-    requires { (link_words n ≤ length links.now) × (cell_bytes n ≤ length cells.old) × (first < n) }
+    requires { (link_words n.number ≤ length links.now) × (cell_bytes n.number ≤ length cells.old) × (first < n.number) }
     ensures { (result, cells.new)
-        ≡ store_from n links.now (rules.cells (length frame.now)) first
+        ≡ store_from n.number links.now (rules.cells (length frame.now)) first
         (stored_bytes header ++ frame.now) cells.old }
 {
     let i = first as usize;
     let a = CELL_SIZE * i;
     write_header(cells, a, header);
-    let after = links[NEXT + CELL_STRIDE * i];
+    let after = links[next_at(i)];
     if frame.len() <= FIRST_PART {
         slices::copy(cells, a + STORED_HEADER, frame);
         return after;
     }
-    slices::copy_first_part(cells, a + STORED_HEADER, frame, 0);
-    store_rest(cells, links, n, below(after, n), frame)
+    slices::copy_block::<FIRST_PART>(cells, a + STORED_HEADER, frame, 0);
+    let (_, rest) = frame.split_at(FIRST_PART);
+    store_rest(cells, links, n, n.below(after), rest)
 }
 
-// The bytes of the cells from c on into out, from place at up to place end. Answers the last of these cells.
-fn load_rest(
-    cells: &[u8],
-    links: &[u32],
-    n: usize,
-    c: usize,
-    out: &mut [u8],
-    at: usize,
-    end: usize,
-) -> usize
-    requires { (link_words n ≤ length links.now) × (cell_bytes n ≤ length cells.now) × (c < n) × (at < end)
-        × (end ≤ length out.old) }
-    ensures value { (result ≡ walk n links.now (cells_for (end - at) - 1) c) × (result < n) }
+// The bytes of the cells from c on, as many as out takes, at least one. Answers the last of these cells.
+#[inline(always)]
+#[tactic(auto, using(crate::proofs::Turns::walk_goes_on, crate::proofs::Turns::load_starts, crate::proofs::Turns::load_goes_on, crate::proofs::Turns::load_ends))]
+fn load_rest(cells: &[u8], links: &[u32], n: CellCount, c: usize, out: &mut [u8]) -> usize
+    requires { (link_words n.number ≤ length links.now) × (cell_bytes n.number ≤ length cells.now) × (c < n.number)
+        × (0 < length out.old) }
+    ensures value { (result ≡ walk n.number links.now (cells_for (length out.old) - 1) c) × (result < n.number) }
     ensures out_after { out.new
-        ≡ sets out.old at
-        (take (end - at) (load_cells cells.now (follow n links.now (cells_for (end - at)) c))) }
+        ≡ take (length out.old) (load_cells cells.now (follow n.number links.now (cells_for (length out.old)) c)) }
 {
     let mut cell = c;
-    let mut done = at;
-    while done + CELL_SIZE < end {
-        slices::copy_cell(out, done, cells, CELL_SIZE * cell);
+    let mut done = 0;
+    while done + CELL_SIZE < out.len() {
+        slices::copy_block::<CELL_SIZE>(out, done, cells, CELL_SIZE * cell);
         cell = next(links, n, cell);
         done += CELL_SIZE;
     }
     let a = CELL_SIZE * cell;
-    let e = a + (end - done);
+    let e = a + (out.len() - done);
     slices::copy(out, done, &cells[a..e]);
     cell
 }
 
-// A frame of long bytes stands in the cells from first on: it goes to the front of out. Answers its last cell.
-pub fn load_whole(
-    cells: &[u8],
-    links: &[u32],
-    n: usize,
-    first: u32,
-    long: usize,
-    out: &mut [u8],
-) -> usize
-    requires n_in_bounds { (link_words n ≤ length links.now) × (cell_bytes n ≤ length cells.now) × (first < n) }
-    requires long_in_bounds { long ≤ length out.old }
-    ensures value { (result ≡ walk n links.now (rules.cells long - 1) first) × (result < n) }
-    ensures out_after { out.new
-        ≡ load_from 0 out.old cells.now 0 long
-        (follow n links.now (rules.cells long) first) }
-{
-    let i = first as usize;
-    let a = CELL_SIZE * i + STORED_HEADER;
-    if long <= FIRST_PART {
-        let e = a + long;
-        slices::copy(out, 0, &cells[a..e]);
-        return i;
-    }
-    slices::copy_first_part(out, 0, cells, a);
-    load_rest(cells, links, n, next(links, n, i), out, FIRST_PART, long)
-}
-
 // A frame of long bytes stands in the cells from first on: what follows its first `from` bytes goes into out, from
-// place at on. Answers its last cell.
+// place at on. Answers its last cell. Where `from` is 0, the compiler is to know it.
+#[tactic(auto, using(crate::proofs::Turns::load_short, crate::proofs::Turns::load_long))]
+#[inline(always)]
 pub fn load(
     cells: &[u8],
     links: &[u32],
-    n: usize,
+    n: CellCount,
     first: u32,
     from: usize,
     long: usize,
     out: &mut [u8],
     at: usize,
 ) -> usize
-    requires n_in_bounds { (link_words n ≤ length links.now) × (cell_bytes n ≤ length cells.now) × (first < n) }
+    requires n_in_bounds { (link_words n.number ≤ length links.now) × (cell_bytes n.number ≤ length cells.now) × (first < n.number) }
     requires from_le_first_part { (from ≤ first_part) × (from ≤ long) × (at + (long - from) ≤ length out.old) }
-    ensures value { (result ≡ walk n links.now (rules.cells long - 1) first) × (result < n) }
+    ensures value { (result ≡ walk n.number links.now (rules.cells long - 1) first) × (result < n.number) }
     ensures out_after { out.new
         ≡ load_from from out.old cells.now at long
-        (follow n links.now (rules.cells long) first) }
+        (follow n.number links.now (rules.cells long) first) }
 {
     let i = first as usize;
     let a = CELL_SIZE * i + STORED_HEADER + from;
@@ -143,13 +116,26 @@ pub fn load(
     let m = FIRST_PART - from;
     let e = a + m;
     slices::copy(out, at, &cells[a..e]);
-    load_rest(
-        cells,
-        links,
-        n,
-        next(links, n, i),
-        out,
-        at + m,
-        at + (long - from),
-    )
+    let rest = &mut out[at + m..at + (long - from)];
+    load_rest(cells, links, n, next(links, n, i), rest)
+}
+
+// A frame of long bytes stands in the cells from first on: it goes to the front of out. Answers its last cell.
+#[inline(always)]
+pub fn load_whole(
+    cells: &[u8],
+    links: &[u32],
+    n: CellCount,
+    first: u32,
+    long: usize,
+    out: &mut [u8],
+) -> usize
+    requires n_in_bounds { (link_words n.number ≤ length links.now) × (cell_bytes n.number ≤ length cells.now) × (first < n.number) }
+    requires long_in_bounds { long ≤ length out.old }
+    ensures value { (result ≡ walk n.number links.now (rules.cells long - 1) first) × (result < n.number) }
+    ensures out_after { out.new
+        ≡ load_from 0 out.old cells.now 0 long
+        (follow n.number links.now (rules.cells long) first) }
+{
+    load(cells, links, n, first, 0, long, out, 0)
 }

@@ -1,80 +1,21 @@
 -- The outcomes of the tests before a copy leaves, and what they say of link memory. Assumes nothing.
-use Prim.Native.Nat.{ℕ, zero, suc, ◌+◌, ◌-◌, ◌*◌, ◌/◌, ◌^◌, ◌%◌, ◌≤◌, ◌<◌}
-use mathlib.Core.Path.{◌≡◌, refl, sym, ap, ◌∙◌}
+use Prim.Native.Nat.{ℕ, ◌-◌, ◌*◌, ◌/◌, ◌^◌, ◌%◌, ◌≤◌, ◌<◌}
+use mathlib.Core.Path.{◌≡◌, sym, ap, ◌∙◌}
 use mathlib.Core.Bool.{Bool, true, false, ◌&&◌}
 use mathlib.Core.List.{List}
-use mathlib.Core.Logic.{◌⊎◌, inl, inr, ⊎_elim}
 use native.Mathlib.Omega.{arith}
-use lib.Bits.{bit_and, and_high, xor_add_and}
 use lib.Dec.{ltb}
 use lib.ListN.{set}
-use borrow.Author.Tests.{lt-ltb, le-ltb, ltb-true, eqb-true, eqb-false, eq-eqb, ne_eqb}
+use borrow.Author.Tests.{lt-ltb, le-ltb, ltb-true, eq-eqb, ne_eqb}
+use Rattle.std.specs.Prelude.{Some as some, None as none}
 use Rattle.rules.specs.Arguments.{bit}
-use Rattle.rules.proofs.Choice.{on, and_left, and_right}
+use Rattle.rules.proofs.Choice.{on, and_left, and_right, and_false}
 use Rattle.layout.specs.Places.{frame_word}
-use Rattle.layout.specs.Same.{QueuesSame}
 use Rattle.cells.specs.Free.{word_of, size_of, ports_of, is_frame, can_give_back, given_back}
-use Rattle.cells.proofs.Apart.{given_queues, ports_queues}
-use Rattle.departure.specs.Leaving.{is_last, turned, has_room, can_leave, departed}
+use Rattle.departure.specs.Leaving.{is_last, turned, has_room, can_leave, word_left, departed}
+use Rattle.departure.proofs.Turns.{bit_le, turned_waits, less_waits, more_absent}
 
--- a port's bit fits a word
-pub port_bit : (port : ℕ) → port < 5 → 1 * 2 ^ port % 2 ^ 32 ≡ 2 ^ port
-port_bit zero h = refl
-port_bit (suc zero) h = refl
-port_bit (suc (suc zero)) h = refl
-port_bit (suc (suc (suc zero))) h = refl
-port_bit (suc (suc (suc (suc zero)))) h = refl
-port_bit (suc (suc (suc (suc (suc port))))) h = absurd (omega arith)
-
--- a mask that has a bit is no less than the bit
-bit_le : (port mask : ℕ) → port < 5 → bit mask port ≡ true → 2 ^ port ≤ mask
-unfolding bit
-bit_le zero mask h e = omega (arith, eqb-true (mask / 2 ^ 0 % 2) 1 e)
-bit_le (suc zero) mask h e = omega (arith, eqb-true (mask / 2 ^ 1 % 2) 1 e)
-bit_le (suc (suc zero)) mask h e = omega (arith, eqb-true (mask / 2 ^ 2 % 2) 1 e)
-bit_le (suc (suc (suc zero))) mask h e = omega (arith, eqb-true (mask / 2 ^ 3 % 2) 1 e)
-bit_le (suc (suc (suc (suc zero)))) mask h e = omega (arith, eqb-true (mask / 2 ^ 4 % 2) 1 e)
-bit_le (suc (suc (suc (suc (suc port))))) mask h e = absurd (omega arith)
-
-module _ (n port c : ℕ) (l : List ℕ) where
-  -- ---- outcomes
-
-  pub no_cell : n ≤ c → false ≡ can_leave n port c l
-  unfolding can_leave
-  no_cell h = rw (le-ltb c n h)
-
-  module _ (below : c < n) where
-    pub no_frame : is_frame c l ≡ false → false ≡ can_leave n port c l
-    unfolding can_leave
-    no_frame f = rw (lt-ltb c n below, f)
-
-    module _ (frame : is_frame c l ≡ true) where
-      pub no_copy : bit (ports_of l c) port ≡ false → false ≡ can_leave n port c l
-      unfolding can_leave
-      no_copy w = rw (lt-ltb c n below, frame, w)
-
-      pub room_asked : bit (ports_of l c) port ≡ true → has_room n port c l ≡ can_leave n port c l
-      unfolding can_leave
-      room_asked w = rw (lt-ltb c n below, frame, w)
-
-  pub last_copy : is_last port c l ≡ true → can_give_back n c l ≡ has_room n port c l
-  unfolding has_room
-  last_copy e = rw e
-
-  pub other_copy : is_last port c l ≡ false → true ≡ has_room n port c l
-  unfolding has_room
-  other_copy e = rw e
-
--- a mask's bit of a port, in the frame word
-pub word_bit : (port word : ℕ) → port < 5 → word / 2 ^ port % 2 ≡ word % 32 / 2 ^ port % 2
-word_bit zero word h = omega arith
-word_bit (suc zero) word h = omega arith
-word_bit (suc (suc zero)) word h = omega arith
-word_bit (suc (suc (suc zero))) word h = omega arith
-word_bit (suc (suc (suc (suc zero)))) word h = omega arith
-word_bit (suc (suc (suc (suc (suc port))))) word h = absurd (omega arith)
-
--- ---- what they say
+-- ---- what a copy that can leave is known by
 
 pub record Leaves (n port c : ℕ) (l : List ℕ) : Type 0 where
   pub below : c < n
@@ -96,121 +37,81 @@ leaves n port c l h =
       room = λ e. rw e at three;
     }
 
--- ---- a port's bit turned over
+-- ---- the frame's word when the copy has left
 
-two : (digit : ℕ) → digit < 2 → (digit ≡ 0) ⊎ (digit ≡ 1)
-two zero h = inl refl
-two (suc zero) h = inr refl
-two (suc (suc digit)) h = absurd (omega arith)
+module _ (port c : ℕ) (l : List ℕ) (known : port < 5) (waits : bit (ports_of l c) port ≡ true) where
+  stands : 2 ^ port ≤ word_of l c % 32
+  stands = bit_le port (word_of l c) known waits
 
-power : (port : ℕ) → port < 5 → 1 ≤ 2 ^ port
-power zero h = omega arith
-power (suc zero) h = omega arith
-power (suc (suc zero)) h = omega arith
-power (suc (suc (suc zero))) h = omega arith
-power (suc (suc (suc (suc zero)))) h = omega arith
-power (suc (suc (suc (suc (suc port))))) h = absurd (omega arith)
+  left_size : (word_of l c - 2 ^ port) / 32 ≡ size_of l c
+  left_size = omega (arith, stands)
 
-less_not : (word turned bit : ℕ) → bit ≤ word % 32 → 1 ≤ bit → turned ≡ word - bit → word ≤ turned → ⊥
-less_not word turned bit h some e le = omega arith
-
-half : (port : ℕ) → port < 5 → 2 ^ (1 + port) - 2 ^ port ≡ 2 ^ port
-half zero h = refl
-half (suc zero) h = refl
-half (suc (suc zero)) h = refl
-half (suc (suc (suc zero))) h = refl
-half (suc (suc (suc (suc zero)))) h = refl
-half (suc (suc (suc (suc (suc port))))) h = absurd (omega arith)
-
-module _ (port word : ℕ) (known : port < 5) where
-  -- the bit is taken away where it stands, and else put there
-  by_digit : turned word port + word / 2 ^ port % 2 * 2 ^ port * 2 ≡ word + 2 ^ port
-  unfolding turned
-  by_digit =
-      let one : bit_and word (2 ^ port) ≡ word / 2 ^ port % 2 * 2 ^ port = ap (bit_and word) (sym (half port known)) ∙ and_high word 1 port in
-      rw one at (xor_add_and word (2 ^ port))
-
-  taken_away : (turned bit digit : ℕ) → turned + digit * bit * 2 ≡ word + bit → digit ≡ 1 → turned ≡ word - bit
-  taken_away turned bit digit e one = let sum : turned + 1 * bit * 2 ≡ word + bit = rw one at e in omega arith
-
-  put_there : (turned bit digit : ℕ) → turned + digit * bit * 2 ≡ word + bit → digit < 2 → (digit ≡ 1 → ⊥) → word ≤ turned
-  put_there turned bit digit e small other =
-      let none : digit ≡ 0 = ⊎_elim (λ h. h) (λ h. absurd (other h)) (two digit small) in
-      let sum : turned + 0 * bit * 2 ≡ word + bit = rw none at e in omega arith
-
-  pub turned_waits : bit (word % 32) port ≡ true → turned word port ≡ word - 2 ^ port
-  unfolding bit
-  turned_waits e =
-      let digit : word / 2 ^ port % 2 ≡ 1 = word_bit port word known ∙ eqb-true (word % 32 / 2 ^ port % 2) 1 e in
-      taken_away (turned word port) (2 ^ port) (word / 2 ^ port % 2) by_digit digit
-
-  turned_absent : bit (word % 32) port ≡ false → word ≤ turned word port
-  unfolding bit
-  turned_absent e =
-      put_there (turned word port) (2 ^ port) (word / 2 ^ port % 2) by_digit (omega arith)
-      (λ h. eqb-false (word % 32 / 2 ^ port % 2) 1 e (sym (word_bit port word known) ∙ h))
-
-  -- so the comparison tells whether the frame waits at the port
-  pub less_waits : turned word port < word → bit (word % 32) port ≡ true
-  less_waits h = on (bit (word % 32) port) (λ e. e) (λ e. let le = turned_absent e in absurd (omega (arith, le)))
-
-  pub more_absent : word ≤ turned word port → bit (word % 32) port ≡ false
-  more_absent h =
-      on (bit (word % 32) port)
-      (λ e. let le : 2 ^ port ≤ word % 32 = bit_le port (word % 32) known e in absurd (less_not word (turned word port) (2 ^ port) le (power port known) (turned_waits e) h))
-      (λ e. e)
-
-module _ (port c : ℕ) (l : List ℕ) (word left : ℕ) (known : port < 5) (is : word ≡ word_of l c) (by : left ≡ turned word port) where
-  pub waits_here : left < word → (bit (ports_of l c) port ≡ true) × (left ≡ word_of l c - 2 ^ port)
-  waits_here h =
-      let less : turned (word_of l c) port < word_of l c = rw (← is, ← by) h in
-      let waits : bit (ports_of l c) port ≡ true = less_waits port (word_of l c) known less in
-      (waits, by ∙ (rw is (turned_waits port (word_of l c) known waits)))
-
-  pub not_here : word ≤ left → bit (ports_of l c) port ≡ false
-  not_here h = more_absent port (word_of l c) known (rw (← is, ← by) h)
-
-  pub left_here : bit (ports_of l c) port ≡ true → left ≡ word_of l c - 2 ^ port
-  left_here waits = by ∙ (rw is (turned_waits port (word_of l c) known waits))
-
--- ---- the frame's word when a copy has left
-
-same_size : (word bit : ℕ) → bit ≤ word % 32 → (word - bit) / 32 ≡ word / 32
-same_size word bit h = omega arith
-
-alone : (word bit : ℕ) → bit ≤ word % 32 → (word - bit) % 32 ≡ 0 → word % 32 ≡ bit
-alone word bit h e = omega arith
-
-beside : (word bit : ℕ) → word % 32 ≡ bit → (word - bit) % 32 ≡ 0
-beside word bit e = omega arith
-
-module _ (port c : ℕ) (l : List ℕ) (left : ℕ) (known : port < 5) (waits : bit (ports_of l c) port ≡ true) (is : left ≡ word_of l c - 2 ^ port) where
-  pub left_size : left / 32 ≡ size_of l c
-  left_size = ap (◌/ 32) is ∙ same_size (word_of l c) (2 ^ port) (bit_le port (ports_of l c) known waits)
-
-  pub left_alone : left % 32 ≡ 0 → left ≡ 32 * size_of l c
-  left_alone e = omega (arith, left_size)
-
-  pub none_left : left % 32 ≡ 0 → is_last port c l ≡ true
+  none_left : (word_of l c - 2 ^ port) % 32 ≡ 0 → is_last port c l ≡ true
   unfolding is_last
-  none_left e = eq-eqb (ports_of l c) (2 ^ port) (alone (word_of l c) (2 ^ port) (bit_le port (ports_of l c) known waits) (ap (◌% 32) (sym is) ∙ e))
+  none_left e = eq-eqb (ports_of l c) (2 ^ port) (omega (arith, stands))
 
-  pub some_left : (left % 32 ≡ 0 → ⊥) → is_last port c l ≡ false
+  some_left : ((word_of l c - 2 ^ port) % 32 ≡ 0 → ⊥) → is_last port c l ≡ false
   unfolding is_last
-  some_left e = ne_eqb (ports_of l c) (2 ^ port) (λ f. e (ap (◌% 32) is ∙ beside (word_of l c) (2 ^ port) f))
+  some_left e = ne_eqb (ports_of l c) (2 ^ port) (λ f. e (omega arith))
+
+-- ---- the outcomes of the tests, as the code finds them
+
+pub size_left : (port c : ℕ) (l : List ℕ) → port < 5 → turned (word_of l c) port < word_of l c → turned (word_of l c) port / 32 ≡ size_of l c
+size_left port c l known h =
+    let waits : bit (ports_of l c) port ≡ true = less_waits port (word_of l c) known h in
+    ap (◌/ 32) (turned_waits port (word_of l c) known waits) ∙ left_size port c l known waits
 
 module _ (n port c : ℕ) (l : List ℕ) where
-  pub departed_last : is_last port c l ≡ true → given_back n c l ≡ departed n port c l
-  unfolding departed
-  departed_last e = rw e
+  pub no_cell : n ≤ c → none ≡ word_left n port c l
+  unfolding word_left can_leave
+  no_cell h = rw (le-ltb c n h)
 
-  pub departed_other : is_last port c l ≡ false → set l (frame_word c) (word_of l c - 2 ^ port) ≡ departed n port c l
-  unfolding departed
-  departed_other e = rw e
+  pub no_frame : is_frame c l ≡ false → none ≡ word_left n port c l
+  unfolding word_left can_leave
+  no_frame e = rw (e, and_false)
 
-  pub departed_queues : QueuesSame l (departed n port c l)
-  unfolding departed
-  departed_queues =
-      on (is_last port c l)
-      (λ e. rw e (given_queues n c l))
-      (λ e. rw e (ports_queues c l (word_of l c - 2 ^ port)))
+  module _ (left : ℕ) (below : c < n) (frame : is_frame c l ≡ true) (known : port < 5) (is : left ≡ turned (word_of l c) port) where
+    module _ (less : left < word_of l c) where
+      waits : bit (ports_of l c) port ≡ true
+      waits = less_waits port (word_of l c) known (rw (← is) less)
+
+      left_is : left ≡ word_of l c - 2 ^ port
+      left_is = is ∙ turned_waits port (word_of l c) known waits
+
+      pub copy_leaves : (left % 32 ≡ 0 → ⊥) → some left ≡ word_left n port c l
+      unfolding word_left can_leave has_room
+      copy_leaves other =
+          let last : is_last port c l ≡ false = some_left port c l known waits (rw left_is at other) in
+          rw (lt-ltb c n below, frame, waits, last, ← left_is)
+
+      module _ (last : left % 32 ≡ 0) where
+        alone : is_last port c l ≡ true
+        alone = none_left port c l known waits (rw left_is at last)
+
+        pub last_leaves : can_give_back n c l ≡ true → some left ≡ word_left n port c l
+        unfolding word_left can_leave has_room
+        last_leaves room = rw (lt-ltb c n below, frame, waits, alone, room, ← left_is)
+
+        pub no_room : can_give_back n c l ≡ false → none ≡ word_left n port c l
+        unfolding word_left can_leave has_room
+        no_room room = rw (lt-ltb c n below, frame, waits, alone, room)
+
+    pub no_copy : word_of l c ≤ left → none ≡ word_left n port c l
+    unfolding word_left can_leave
+    no_copy more = rw (lt-ltb c n below, frame, more_absent port (word_of l c) known (rw (← is) more))
+
+  -- ---- what is written
+
+  module _ (known : port < 5) (copy : can_leave n port c l ≡ true) where
+    pub given : (word_of l c - 2 ^ port) % 32 ≡ 0 → (can_give_back n c l ≡ true) × (word_of l c - 2 ^ port ≡ 32 * size_of l c)
+    given e =
+        let f = leaves n port c l copy in
+        (f.room (none_left port c l known f.waits e), omega (arith, left_size port c l known f.waits))
+
+    pub departed_last : (word_of l c - 2 ^ port) % 32 ≡ 0 → given_back n c l ≡ departed n port c l
+    unfolding departed
+    departed_last e = rw (none_left port c l known (leaves n port c l copy).waits e)
+
+    pub departed_other : ((word_of l c - 2 ^ port) % 32 ≡ 0 → ⊥) → set l (frame_word c) (word_of l c - 2 ^ port) ≡ departed n port c l
+    unfolding departed
+    departed_other e = rw (some_left port c l known (leaves n port c l copy).waits e)

@@ -1,22 +1,25 @@
 -- The outcomes of the tests of a stored header and of the departing port's operation, and the tags that they give. Assumes nothing.
-use Prim.Native.Nat.{ℕ, ◌+◌, ◌/◌, ◌≤◌}
+use Prim.Native.Nat.{ℕ, ◌/◌, ◌%◌, ◌≤◌, min}
 use mathlib.Core.Path.{◌≡◌, refl}
 use mathlib.Core.Bool.{true, false, ◌&&◌}
 use mathlib.Core.List.{List}
 use native.Mathlib.Omega.{arith}
+use Rattle.std.proofs.lemmas.Grind.{common_steps}
 use lib.Dec.{eqb}
-use borrow.Author.Tests.{eq-eqb, ne_eqb, eqb-true}
+use borrow.Author.Tests.{eq-eqb, ne_eqb, eqb-true, le-leb}
 use Rattle.rules.specs.Cells.{cells}
-use Rattle.rules.specs.Tags.{Tag}
-use Rattle.rules.specs.Operations.{Operation, leaving_tags}
-use Rattle.rules.specs.Arguments.{operation_of}
+use Rattle.rules.specs.Tags.{Tag, header_of}
+use Rattle.rules.specs.Operations.{Origin, Operation, on_stack, operate, leaving_tags}
+use Rattle.rules.specs.Arguments.{operation_of, kind_of, source_of}
 use Rattle.rules.proofs.Choice.{and_left, and_right}
-use Rattle.cells.specs.Free.{size_of}
+use Rattle.cells.specs.Free.{size_of, is_frame}
 use Rattle.cells.specs.Stored.{stored_in_range}
 use Rattle.cells.specs.declared.stored.StoredHeader.{StoredHeader}
 use Rattle.cells.proofs.Operations.{in_range, operated}
 use Rattle.settings.specs.Operations.{operation_in, is_operation_word, is_stored_word, is_exempt}
 use Rattle.settings.specs.Ports.{port_in, default_of}
+use Rattle.settings.proofs.OperationLaws.{kind_in_law}
+use Rattle.tags.specs.Operations.{operation_is}
 use Rattle.settings.specs.Records.{port_operation_at, port_at}
 use Rattle.departure.specs.Frames.{leaving_of, operation_fits, header_fits}
 
@@ -25,6 +28,24 @@ use Rattle.departure.specs.Frames.{leaving_of, operation_fits, header_fits}
 pub operation_at_law : (links : List ℕ) (port : ℕ) → operation_in (port_operation_at links port) ≡ (port_at links port).operation
 unfolding port_in
 operation_at_law links port = refl
+
+-- ---- an operation by the parts of its word
+
+source_law : (k : ℕ) → source_of (min k 2) ≡ source_of k
+unfolding source_of
+source_law k = grind (arith, common_steps)
+
+pub operation_parts : (w header : ℕ) → header_of header ≡ (operation_of (operation_in w)).header
+    → operation_is (record { kind = kind_of (w % 8); tag_type = w / 8 % 2; vid_source = source_of (w / 16 % 4); pcp_source = source_of (w / 64 % 4); header = header })
+    ≡ operation_of (operation_in w)
+unfolding operation_is operation_of operation_in
+operation_parts w header e =
+    let kind : kind_of (min (w % 8) 4) ≡ kind_of (w % 8) = kind_in_law w in
+    rw (kind, source_law (w / 16 % 4), source_law (w / 64 % 4), e)
+
+pub idle : (w : ℕ) (o : Origin) (tags : List Tag) → w % 8 ≡ 0 → tags ≡ operate o (operation_of (operation_in w)) tags
+unfolding operate operation_of operation_in kind_of on_stack
+idle w o tags e = rw e
 
 module _ (h : StoredHeader) where
   -- ---- the tags with which a frame leaves
@@ -43,28 +64,6 @@ module _ (h : StoredHeader) where
   module _ (links : List ℕ) (port : ℕ) where
     pub operation_fits_law : operation_fits h links port ≡ true → is_exempt h.operation ≡ false → is_operation_word (port_operation_at links port) ≡ true
     operation_fits_law f e = rw e at f
-
-    module _ (c : ℕ) where
-      pub no_header : stored_in_range h ≡ false → false ≡ header_fits h port c links
-      unfolding header_fits
-      no_header e = rw e
-
-      module _ (range : stored_in_range h ≡ true) where
-        pub no_size : (size_of links c ≡ (h.length + 87) / 80 → ⊥) → false ≡ header_fits h port c links
-        unfolding header_fits
-        no_size e = rw (range, ne_eqb (size_of links c) (cells h.length) (λ f. e (omega arith)))
-
-        module _ (size : size_of links c ≡ (h.length + 87) / 80) where
-          same : eqb (size_of links c) (cells h.length) ≡ true
-          same = eq-eqb (size_of links c) (cells h.length) (omega arith)
-
-          pub fits_exempt : is_exempt h.operation ≡ true → true ≡ header_fits h port c links
-          unfolding header_fits
-          fits_exempt e = rw (range, same, e)
-
-          pub fits_operation : is_exempt h.operation ≡ false → is_operation_word (port_operation_at links port) ≡ header_fits h port c links
-          unfolding header_fits
-          fits_operation e = rw (range, same, e)
 
 -- ---- what they say
 
@@ -88,3 +87,12 @@ header h port c links e =
       size = eqb-true (size_of links c) (cells h.length) (and_left (eqb (size_of links c) (cells h.length)) _ rest);
       operation = and_right (eqb (size_of links c) (cells h.length)) _ rest;
     }
+
+-- a size that is that of the length is in range
+pub sized : (h : StoredHeader) (port c : ℕ) (links : List ℕ) → header_fits h port c links ≡ true → is_frame c links ≡ true
+unfolding is_frame
+sized h port c links e =
+    let f = header h port c links e in
+    let some : 1 ≤ size_of links c = omega (arith, f.size, f.short) in
+    let few : size_of links c ≤ 52 = omega (arith, f.size, f.long) in
+    rw (le-leb 1 (size_of links c) some, le-leb (size_of links c) 52 few)

@@ -1,5 +1,7 @@
+pub mod Turns
 pub mod Copies
-pub mod Drains
 pub mod Headers
-pub mod Retagged
+pub mod Departs
 pub mod Plain
+pub mod Retagged
+pub mod Drains

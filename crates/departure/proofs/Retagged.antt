@@ -1,29 +1,24 @@
 -- A leaving frame written in four runs: addresses, tags, payload and zeros. Assumes nothing.
-use Prim.Native.Nat.{ℕ, ◌+◌, ◌*◌, ◌-◌, ◌≤◌, ◌<◌}
-use mathlib.Core.Path.{◌≡◌, sym, ap, ap₂, ◌∙◌}
+use Prim.Native.Nat.{ℕ, ◌+◌, ◌*◌, ◌-◌, ◌≤◌}
+use mathlib.Core.Path.{◌≡◌, refl, sym, ap, ap₂, ◌∙◌}
 use mathlib.Core.List.{List, ◌++◌}
 use native.Mathlib.Omega.{arith}
 use lib.ListN.{length, take, drop, replicate, length-append, length-drop, length-replicate}
 use lib.Seq.{sets, length-take-le, get_or-take}
 use Rattle.rules.specs.Tags.{Tag, tags_of, tag_at, two_bytes_at, addresses, payload, stack_bytes}
-use Rattle.rules.specs.Operations.{Operation, padded, retagged}
-use Rattle.rules.proofs.Choice.{on}
-use Rattle.rules.proofs.Leaving.{stack_grows}
+use Rattle.rules.specs.Cells.{cells}
+use Rattle.rules.specs.Operations.{padded, retagged}
 use Rattle.slices.proofs.Runs.{sets_append}
 use Rattle.tags.specs.declared.stack.Stack.{Stack}
 use Rattle.tags.specs.Numbers.{stack_is}
+use Rattle.tags.proofs.Laws.{stack_bytes_length}
 use Rattle.tags.proofs.Stacks.{stack_length}
-use Rattle.cells.specs.Chains.{follow}
-use Rattle.cells.specs.Free.{frame_cells}
-use Rattle.cells.specs.Bytes.{load_cells, frame_in}
-use Rattle.cells.specs.Stored.{stored_operation}
-use Rattle.cells.specs.declared.stored.StoredHeader.{StoredHeader}
-use Rattle.cells.proofs.Loads.{length_load}
-use Rattle.cells.proofs.Steps.{follow_below}
-use Rattle.cells.proofs.Paths.{length_follow}
-use Rattle.settings.specs.Operations.{is_exempt}
-use Rattle.settings.specs.Ports.{default_of}
-use Rattle.departure.specs.Frames.{leaving_of, stored_at, operation_of_port, leaving_from, written, finished}
+use Rattle.cells.specs.Chains.{follow, walk}
+use Rattle.cells.specs.Bytes.{front_in, load_from}
+use Rattle.departure.specs.declared.departing.Departing.{Departing}
+use Rattle.departure.specs.Departing.{frame_bytes, leaving_bytes, leaving_tags_of, Wrote}
+use Rattle.departure.specs.Frames.{written, finished}
+use Rattle.departure.proofs.Departs.{last_is, bytes_are, whole, front_is}
 
 -- the tags stand in the first twenty bytes
 two_front : (bytes : List ℕ) (i : ℕ) → i + 2 ≤ 20 → two_bytes_at (take 20 bytes) i ≡ two_bytes_at bytes i
@@ -80,28 +75,39 @@ module _ (out bytes : List ℕ) (stack : List Tag) (k t long : ℕ) (whole : len
       → finished first (12 + 4 * t) (12 + 4 * k) bytes end ≡ written out (retagged bytes stack)
   front_written e = rw e retagged_written
 
--- ---- a frame over its cells
+-- ---- the frame that leaves
 
-pub frame_long : (n : ℕ) (l mem : List ℕ) (k c long : ℕ) → 80 * n ≤ length mem → c < n → long + 8 ≤ 80 * k
-    → length (frame_in mem (follow n l k c) long) ≡ long
-unfolding frame_in
-frame_long n l mem k c long fits below room =
-    length-take-le long (drop 8 (load_cells mem (follow n l k c)))
-    (simp length-drop (omega (arith, length_load n mem (follow n l k c) fits (follow_below n l k c below), length_follow n l k c)))
+module _ (d : Departing) (out : List ℕ) where
+  -- the addresses and the tags, which are the frame's own where they stand in its first cell
+  pub front_wrote : (first after : List ℕ) (own new : Stack)
+      → first ≡ sets out 0 (front_in d.cells.now d.c 12)
+      → stack_is own ≡ tags_of (front_in d.cells.now d.c 20)
+      → own.count ≤ 2
+      → stack_is new ≡ leaving_tags_of d (stack_is own)
+      → after ≡ sets first 12 (stack_bytes (stack_is new))
+      → finished after (12 + 4 * own.count) (12 + 4 * new.count) (frame_bytes d) (12 + 4 * new.count + (d.long - (12 + 4 * own.count)))
+      ≡ written out (leaving_bytes d)
+  front_wrote first after own new addresses read few made e =
+      let bytes : List ℕ = frame_bytes d in
+      let own_is : stack_is own ≡ tags_of bytes = read ∙ ap tags_of (front_is d 20 (omega arith)) ∙ tags_front bytes in
+      let before : first ≡ sets out 0 (take 12 bytes) = addresses ∙ ap (sets out 0) (front_is d 12 (omega arith)) in
+      front_written out bytes (stack_is new) new.count own.count d.long (whole d) d.length.0 (sym (ap length own_is) ∙ stack_length own) few
+      (stack_bytes_length new) _ refl
+      (e ∙ ap (λ (x : List ℕ). sets x 12 (stack_bytes (stack_is new))) before)
+      ∙ ap (λ (x : List Tag). written out (retagged bytes x)) (made ∙ ap (leaving_tags_of d) own_is)
 
-leaving_length : (h : StoredHeader) (o : Operation) (tags : List Tag) → length (leaving_of h o tags) ≤ length tags + 2
-unfolding leaving_of
-leaving_length h o tags =
-    on (is_exempt h.operation)
-    (λ e. rw e (omega arith))
-    (λ e. rw e (stack_grows (record { tags = tags; default = default_of h.default }) (stored_operation h) o))
-
-pub leaving_few : (h : StoredHeader) (o : Operation) (own new : Stack) → stack_is new ≡ leaving_of h o (stack_is own) → new.count ≤ own.count + 2
-leaving_few h o own new e = omega (arith, stack_length own, stack_length new, ap length e, leaving_length h o (stack_is own))
-
-pub leaving_is : (n : ℕ) (h : StoredHeader) (cells links : List ℕ) (port c : ℕ) (own new : List Tag)
-    → h ≡ stored_at cells c
-    → own ≡ tags_of (frame_in cells (frame_cells n links c) h.length)
-    → new ≡ leaving_of h (operation_of_port links port) own
-    → retagged (frame_in cells (frame_cells n links c) h.length) new ≡ leaving_from n cells links port c
-leaving_is n h cells links port c own new e p q = rw (q, p, e)
+  -- then the rest of the frame, and zeros
+  pub retagged_wrote : (front loaded after : List ℕ) (from at end last count : ℕ)
+      → finished front from at (frame_bytes d) end ≡ written out (leaving_bytes d)
+      → end ≤ 4091
+      → last ≡ walk d.n.number d.links.now (cells d.long - 1) d.c
+      → loaded ≡ load_from from front d.cells.now at d.long (follow d.n.number d.links.now (cells d.long) d.c)
+      → (count ≡ end + (60 - end)) × (after ≡ sets loaded end (replicate (60 - end) 0))
+      → Wrote d out (record { long = count; last = last }) after
+  retagged_wrote front loaded after from at end last count f few l e p =
+      let is : loaded ≡ sets front at (drop from (frame_bytes d)) = rw (bytes_are d) at e in
+      record {
+        bytes = rw (p.0, p.1, is) f;
+        short = omega (arith, p.0);
+        last = last_is d last l;
+      }

@@ -1,6 +1,6 @@
 -- A port is drained: what is met, and what is written. Assumes nothing: these are definitions.
 use Rattle.std.specs.Prelude.{ℕ, ◌+◌, Bool, true, ◌&&◌, List, [], ◌∷◌, if◌then◌else◌}
-use Rattle.rules.specs.Counters.{drained}
+use Rattle.rules.specs.declared.counters.Counter.TheVariants.{Drained as drained}
 use Rattle.queues.specs.Lists.{youngest_of, oldest_cell, waiting_in_range, list_from, list_of, turns, turn_count}
 use Rattle.departure.specs.Leaving.{can_leave, departed, left}
 

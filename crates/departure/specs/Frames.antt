@@ -4,7 +4,9 @@ use Rattle.std.specs.Prelude.{ℕ, ◌+◌, ◌-◌, Bool, true, false, ◌&&◌
 use Rattle.std.proofs.lemmas.List.Edits.{sets}
 use Rattle.rules.specs.Cells as Rules
 use Rattle.rules.specs.Tags.{Tag, tags_of}
-use Rattle.rules.specs.Operations.{Kind, none, pop, push, swap, pop_all, Operation, leaving_tags, retagged}
+use Rattle.rules.specs.Operations.{Operation, leaving_tags, retagged}
+use Rattle.rules.specs.declared.operations.Kind.{Kind}
+use Rattle.rules.specs.declared.operations.Kind.TheVariants.{Nothing as none, Pop as pop, Push as push, Swap as swap, PopAll as pop_all}
 use Rattle.rules.specs.Arguments.{operation_of}
 use Rattle.rules.specs.Outcomes.{Frame}
 use Rattle.cells.specs.Free.{size_of, frame_cells}
@@ -14,6 +16,7 @@ use Rattle.cells.specs.declared.stored.StoredHeader.{StoredHeader}
 use Rattle.settings.specs.Operations.{is_operation_word, is_exempt}
 use Rattle.settings.specs.Ports.{default_of}
 use Rattle.settings.specs.Records.{port_operation_at, port_at}
+use Rattle.departure.specs.Leaving.{can_leave}
 
 -- the frame of a stored header and these bytes, in this queue
 unfoldable pub frame_of : StoredHeader → List ℕ → ℕ → Frame
@@ -73,6 +76,10 @@ header_fits h port c links =
     stored_in_range h
     && (eqb (size_of links c) (Rules.cells h.length)
     && operation_fits h links port)
+
+-- all that a take meets of the frame
+unfoldable pub can_send : List ℕ → ℕ → ℕ → ℕ → List ℕ → Bool
+can_send cells n port c links = can_leave n port c links && header_fits (stored_at cells c) port c links
 
 -- a result at the front of the lent buffer: its length, and the buffer then
 abbrev pub written : List ℕ → List ℕ → ℕ × List ℕ

@@ -1,9 +1,11 @@
 -- A copy leaves a port: what is tested before, and what is written to link memory, in this order. Assumes nothing:
 -- these are definitions.
 use Rattle.std.specs.Prelude.{ℕ, ◌-◌, ◌^◌, Bool, true, ◌&&◌, List, eqb, ltb, set, if◌then◌else◌}
+use Rattle.std.specs.Prelude.{Option, Some as some, None as none}
 use Rattle.std.specs.Int.Bits.{bit_xor}
 use Rattle.rules.specs.Arguments.{bit}
-use Rattle.rules.specs.Counters.{Counter, counter_number}
+use Rattle.rules.specs.Counters.{counter_number}
+use Rattle.rules.specs.declared.counters.Counter.{Counter}
 use Rattle.layout.specs.Places.{frame_word}
 use Rattle.cells.specs.Free.{word_of, ports_of, is_frame, can_give_back, given_back}
 use Rattle.queues.specs.Lists.{popped_at}
@@ -26,6 +28,10 @@ unfoldable pub can_leave : ℕ → ℕ → ℕ → List ℕ → Bool
 can_leave n port c links =
     ltb c n
     && (is_frame c links && (bit (ports_of links c) port && has_room n port c links))
+
+-- then the frame word when the copy has left
+unfoldable pub word_left : ℕ → ℕ → ℕ → List ℕ → Option ℕ
+word_left n port c links = if can_leave n port c links then some (word_of links c - 2 ^ port) else none
 
 -- "its cells are free when its last copy is sent or drained"
 unfoldable pub departed : ℕ → ℕ → ℕ → List ℕ → List ℕ

@@ -1,3 +1,4 @@
 pub mod Leaving
 pub mod Draining
 pub mod Frames
+pub mod Departing

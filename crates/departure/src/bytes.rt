@@ -1,158 +1,79 @@
 // The bytes with which a frame leaves: its addresses, its leaving tags, its payload and zeros up to 60.
-ghost use Rattle.std.specs.Prelude.{◌≡◌, true, false, ◌+◌, ◌*◌, ◌-◌, ◌/◌, ◌%◌, ◌≤◌, ◌<◌, length, replicate};
+ghost use Rattle.std.specs.Prelude.{◌≡◌, ◌+◌, ◌-◌, ◌*◌, ◌≤◌, length, replicate};
 ghost use Rattle.std.proofs.lemmas.List.Edits.{sets};
-ghost use Rattle.rules.specs.Cells.{shortest, largest_result};
+ghost use Rattle.rules.specs.Cells.{shortest, largest_result, cell_size, header_size};
 ghost use Rattle.rules.specs.Tags.{tags_of};
 ghost use Rattle.rules.specs.Arguments.{operation_of};
-ghost use Rattle.layout.specs.Places.{fixed_words, link_words, cell_bytes};
-ghost use Rattle.cells.specs.Free.{word_of, last_cell};
+ghost use Rattle.rules.specs.Operations.{operate};
 ghost use Rattle.cells.specs.Bytes.{front_in};
-ghost use Rattle.tags.specs.Numbers.{stack_is};
+ghost use Rattle.tags.specs.Numbers.{stack_is, origin_is};
 ghost use Rattle.tags.specs.Operations.{operation_is};
-ghost use Rattle.settings.specs.Operations.{operation_in, is_operation_word, is_stored_word};
-ghost use Rattle.settings.specs.Records.{port_operation_at};
-ghost use Rattle.departure.specs.Frames as spec;
+ghost use Rattle.settings.specs.Operations.{operation_in};
+ghost use Rattle.departure.specs.Frames.{written, finished};
+ghost use Rattle.departure.specs.Departing.{frame_bytes, leaving_bytes, leaving_tags_of, Plain, Wrote};
 
-use cells::stored::StoredHeader;
+use crate::departing::{Departing, operation_word};
+use cells::bytes::{load, load_whole};
+use cells::stored::read_header;
 use layout::numbers::SHORTEST;
-use layout::{CELL_SIZE, PORT_OPERATION, PORT_STRIDE, SIZE_UNIT, STORED_HEADER};
-use settings::operation::{
-    PCP_SOURCE, TYPE, VID_SOURCE, given_header, is_exempt, is_operation_word,
-};
+use layout::{CELL_SIZE, STORED_HEADER};
+use rules::operations::{Kind, Source};
+use settings::operation::{OperationWord, PCP_SOURCE, TYPE, VID_SOURCE, is_exempt};
 use settings::port::default_tag;
-use tags::leaving::Operation;
+use tags::leaving::{Operation, Origin};
 use tags::stack::Stack;
 
-// The operation of a word: a port's, or a VLAN's that was stored with a frame.
-fn operation_of(word: u32) -> Operation
-    requires { is_operation_word word ≡ true }
-    ensures { operation_is result ≡ operation_of (operation_in word) }
+// The operation of a word: a port's, or a VLAN's that was stored with a frame. Its kind comes last, right before it is
+// asked: so the compiler asks once.
+#[inline(always)]
+#[tactic(auto, using(crate::proofs::Headers::operation_parts))]
+fn operation_of(operation: OperationWord) -> Operation
+    ensures { operation_is result ≡ operation_of (operation_in operation.word) }
 {
-    let header = given_header(word);
+    let word = operation.word;
     Operation {
-        kind: word % TYPE,
         tag_type: word / TYPE % 2,
-        vid_source: word / VID_SOURCE % 4,
-        pcp_source: word / PCP_SOURCE % 4,
-        header,
+        vid_source: Source::from(word / VID_SOURCE % 4),
+        pcp_source: Source::from(word / PCP_SOURCE % 4),
+        header: operation.given_header(),
+        kind: Kind::from(word % TYPE),
     }
 }
 
-// The word of the departing port's operation.
-pub fn operation_word(links: &[u32], port: usize) -> u32
-    requires { (fixed_words ≤ length links.now) × (port < 5) }
-    ensures { result ≡ port_operation_at links.now port }
+// The operation of a word on a stack. None is told first: then no other part of the word is read.
+#[inline(always)]
+#[tactic(auto, using(crate::proofs::Headers::idle))]
+fn operated(origin: Origin, word: OperationWord, stack: Stack) -> Stack
+    requires { stack.count ≤ 3 }
+    ensures { (stack_is result
+        ≡ operate (origin_is origin.tags origin.default) (operation_of (operation_in word.word)) (stack_is stack))
+        × (result.count ≤ stack.count + 1) }
 {
-    links[PORT_OPERATION + PORT_STRIDE * port]
-}
-
-const CELL_BYTES: u32 = CELL_SIZE as u32;
-
-// To round a length with its header up to cells.
-const ROUND_UP: u32 = (STORED_HEADER + CELL_SIZE - 1) as u32;
-
-// Is the stored header in range, and does it fit the frame's cells? `own` is the word of the departing port's
-// operation, `word` the frame word.
-pub fn header_fits(links: &[u32], port: usize, c: u32, h: StoredHeader, own: u32, word: u32) -> bool
-    requires { (own ≡ port_operation_at links.now port) × (word ≡ word_of links.now c) }
-    ensures { result ≡ spec.header_fits h port c links.now }
-{
-    if cells::stored::in_range(h) {
-        // "The least whole number of cells holding n + 8 bytes." It is no more than 52, so that no other bit of the
-        // word is set.
-        if word / SIZE_UNIT == ((h.length as u32) + ROUND_UP) / CELL_BYTES {
-            if is_exempt(h.operation) {
-                return true;
-            }
-            return is_operation_word(own);
-        }
+    if word.word % TYPE == 0 {
+        return stack;
     }
-    false
-}
-
-// The frame's own tags, which stand in its first cell.
-fn tags_at(cells: &[u8], n: usize, c: u32) -> Stack
-    requires { (cell_bytes n ≤ length cells.now) × (c < n) }
-    ensures { stack_is result ≡ tags_of (front_in cells.now c 20) }
-{
-    let a = CELL_SIZE * (c as usize) + STORED_HEADER;
-    let e = a + 20;
-    tags::reading::decode(&cells[a..e])
-}
-
-// The tags with which the frame leaves.
-fn leaving(links: &[u32], port: usize, h: StoredHeader, tags: Stack) -> Stack
-    requires fixed_words_in_bounds { (fixed_words ≤ length links.now) × (port < 5) × (tags.count ≤ 2) }
-    requires operation_value { (is_stored_word h.operation ≡ true) × (spec.operation_fits h links.now port ≡ true) }
-    ensures { stack_is result ≡ spec.leaving_of h (spec.operation_of_port links.now port) (stack_is tags) }
-{
-    if is_exempt(h.operation) {
-        return tags;
-    }
-    let vlan = operation_of(h.operation);
-    let own = operation_of(operation_word(links, port));
-    tags::leaving::leaving_tags(default_tag(h.default), tags, vlan, own)
+    origin.operate(operation_of(word), stack)
 }
 
 // "A result under 60 bytes is filled with zeros to 60." Answers the length then.
+#[tactic(auto, using(slices::proofs::Runs::part_back))]
 fn pad(out: &mut [u8], long: usize) -> usize
     requires { (long ≤ length out.old) × (shortest ≤ length out.old) }
     ensures { (result ≡ long + (60 - long))
         × (out.new ≡ sets out.old long (replicate (60 - long) 0)) }
 {
     if long < SHORTEST {
-        slices::fill(out, long, SHORTEST - long, 0);
+        out[long..SHORTEST].fill(0);
         return SHORTEST;
     }
     long
 }
 
-// Is neither the VLAN's nor the departing port's an operation that acts? Then the frame leaves as it is.
-pub fn is_plain(links: &[u32], port: usize, h: StoredHeader, own: u32) -> bool
-    requires { own ≡ port_operation_at links.now port }
-    ensures { result ≡ true → spec.leaves_plain h (spec.operation_of_port links.now port) ≡ true }
-{
-    (h.operation % TYPE == 0) & (own % TYPE == 0)
-}
-
-// The frame's addresses, at the front of out.
-fn write_addresses(cells: &[u8], n: usize, c: u32, out: &mut [u8])
-    requires { (cell_bytes n ≤ length cells.now) × (12 ≤ length out.old) × (c < n) }
-    ensures { out.new ≡ sets out.old 0 (front_in cells.now c 12) }
-{
-    let a = CELL_SIZE * (c as usize) + STORED_HEADER;
-    let e = a + 12;
-    slices::copy(out, 0, &cells[a..e]);
-}
-
 // What follows the frame's first `from` bytes is to go into the buffer, from place `at` on.
 #[derive(Clone, Copy)]
-pub struct Front {
-    pub from: usize,
-    pub at: usize,
-}
-
-// The addresses and the tags with which the frame leaves. What was tested is read again, behind a write: then the
-// compiler keeps none of it in a register for the frames that leave as they are.
-fn write_front(cells: &[u8], links: &[u32], n: usize, port: usize, c: u32, out: &mut [u8]) -> Front
-    requires n_in_bounds { (link_words n ≤ length links.now) × (cell_bytes n ≤ length cells.now)
-        × (largest_result ≤ length out.old) × (port < 5) }
-    requires c_lt_n { (c < n) × (spec.header_fits (spec.stored_at cells.now c) port c links.now ≡ true) }
-    ensures from_after { spec.finished out.new result.from result.at
-        (spec.bytes_at n cells.now links.now c)
-        (result.at + ((spec.stored_at cells.now c).length - result.from))
-        ≡ spec.written out.old (spec.leaving_from n cells.now links.now port c) }
-    ensures from_bound { (result.from ≤ 20) × (result.at ≤ result.from + 8) }
-{
-    write_addresses(cells, n, c, out);
-    let h = cells::stored::read_header(cells, n, c);
-    let own = tags_at(cells, n, c);
-    let new = leaving(links, port, h, own);
-    tags::writing::encode(new, out, 12);
-    Front {
-        from: 12 + 4 * own.count,
-        at: 12 + 4 * new.count,
-    }
+struct Front {
+    from: usize,
+    at: usize,
 }
 
 // What was written: how many bytes. Besides, the last cell that was read, where the frame's cells end.
@@ -162,52 +83,115 @@ pub struct Written {
     pub last: usize,
 }
 
-// The frame as it is.
-pub fn write_plain(
-    cells: &[u8],
-    links: &[u32],
-    n: usize,
-    port: usize,
-    c: u32,
-    long: usize,
-    out: &mut [u8],
-) -> usize
-    requires n_in_bounds { (link_words n ≤ length links.now) × (cell_bytes n ≤ length cells.now)
-        × (largest_result ≤ length out.old) }
-    requires c_lt_n { (c < n) × (long ≡ (spec.stored_at cells.now c).length)
-        × (spec.header_fits (spec.stored_at cells.now c) port c links.now ≡ true)
-        × (spec.leaves_plain (spec.stored_at cells.now c) (spec.operation_of_port links.now port) ≡ true) }
-    ensures value { result ≡ last_cell n links.now c }
-    ensures out_after { (long, out.new)
-        ≡ spec.written out.old (spec.leaving_from n cells.now links.now port c) }
-{
-    cells::bytes::load_whole(cells, links, n, c, long, out)
-}
+impl<'a> Departing<'a> {
+    // Where the frame stands in its first cell.
+    fn place(self) -> usize
+        ensures { result ≡ cell_size * self.entry.c + header_size }
+    {
+        CELL_SIZE * (self.c as usize) + STORED_HEADER
+    }
 
-// The frame with the tags that the operations make.
-pub fn write_retagged(
-    cells: &[u8],
-    links: &[u32],
-    n: usize,
-    port: usize,
-    c: u32,
-    long: usize,
-    out: &mut [u8],
-) -> Written
-    requires n_in_bounds { (link_words n ≤ length links.now) × (cell_bytes n ≤ length cells.now)
-        × (largest_result ≤ length out.old)
-        × (port < 5) }
-    requires c_lt_n { (c < n) × (long ≡ (spec.stored_at cells.now c).length)
-        × (spec.header_fits (spec.stored_at cells.now c) port c links.now ≡ true) }
-    ensures out_after { (result.long, out.new)
-        ≡ spec.written out.old (spec.leaving_from n cells.now links.now port c) }
-    ensures long_le_largest_result { (result.long ≤ largest_result) × (result.last ≡ last_cell n links.now c) }
-{
-    let front = write_front(cells, links, n, port, c, out);
-    let last = cells::bytes::load(cells, links, n, c, front.from, long, out, front.at);
-    let written = pad(out, front.at + (long - front.from));
-    Written {
-        long: written,
-        last,
+    // The frame's own tags, which stand in its first cell.
+    #[inline(always)]
+    #[tactic(auto, using(tags::proofs::Laws::decoded_count))]
+    fn tags(self) -> Stack
+        ensures { (stack_is result ≡ tags_of (front_in self.entry.cells.now self.entry.c 20)) × (result.count ≤ 2) }
+    {
+        let a = self.place();
+        tags::reading::decode(&self.cells[a..a + 20])
+    }
+
+    // The tags with which the frame leaves, where these are its own. What was met is read again, behind a write: then the
+    // compiler keeps none of it in a register for the frames that leave as they are.
+    #[inline(always)]
+    #[tactic(auto, unfolding(rules::specs::Operations::leaving_tags, crate::specs::Frames::leaving_of, cells::specs::Stored::stored_operation, settings::specs::Ports::port_in, tags::specs::Numbers::origin_is), using(crate::proofs::Departs::vlan_good, crate::proofs::Departs::own_good, tags::proofs::Laws::leaving_count))]
+    fn leaving(self, tags: Stack) -> Stack
+        requires { tags.count ≤ 2 }
+        ensures new_tags { stack_is result ≡ leaving_tags_of self.entry (stack_is tags) }
+        ensures few { result.count ≤ tags.count + 2 }
+    {
+        let header = read_header(self.cells, self.n, self.c);
+        if is_exempt(header.operation) {
+            return tags;
+        }
+        let vlan = OperationWord {
+            word: header.operation,
+        };
+        let own = OperationWord {
+            word: operation_word(self.links, self.port),
+        };
+        let origin = Origin {
+            tags,
+            default: default_tag(header.default),
+        };
+        operated(origin, own, operated(origin, vlan, tags))
+    }
+
+    // The frame's addresses, at the front of out.
+    #[inline(always)]
+    #[tactic(auto, using(slices::proofs::Runs::part_back))]
+    fn write_addresses(self, out: &mut [u8])
+        requires { 12 ≤ length out.old }
+        ensures { out.new ≡ sets out.old 0 (front_in self.entry.cells.now self.entry.c 12) }
+    {
+        let a = self.place();
+        out[..12].copy_from_slice(&self.cells[a..a + 12]);
+    }
+
+    // The addresses and the tags with which the frame leaves.
+    #[inline(always)]
+    fn write_front(self, out: &mut [u8]) -> Front
+        requires { largest_result ≤ length out.old }
+        ensures from_after { finished out.new result.from result.at (frame_bytes self.entry)
+            (result.at + (self.entry.long - result.from))
+            ≡ written out.old (leaving_bytes self.entry) }
+        ensures from_bound { (result.from ≤ 20) × (result.at ≤ result.from + 8) }
+    {
+        self.write_addresses(out);
+        let own = self.tags();
+        let new = self.leaving(own);
+        tags::writing::encode(new, out, 12);
+        Front {
+            from: 12 + 4 * own.count,
+            at: 12 + 4 * new.count,
+        }
+    }
+
+    // The frame as it is.
+    #[inline(always)]
+    fn write_plain(self, out: &mut [u8]) -> Written
+        requires { (largest_result ≤ length out.old) × Plain self }
+        ensures { Wrote self.entry out.old result out.new }
+    {
+        let long = self.long;
+        let last = load_whole(self.cells, self.links, self.n, self.c, long, out);
+        Written { long, last }
+    }
+
+    // The frame with the tags that the operations make.
+    #[inline(always)]
+    fn write_retagged(self, out: &mut [u8]) -> Written
+        requires { largest_result ≤ length out.old }
+        ensures { Wrote self.entry out.old result out.new }
+    {
+        let front = self.write_front(out);
+        let last = load(
+            self.cells, self.links, self.n, self.c, front.from, self.long, out, front.at,
+        );
+        let long = pad(out, front.at + (self.long - front.from));
+        Written { long, last }
+    }
+
+    // The bytes with which the frame leaves, at the front of the buffer.
+    #[inline(always)]
+    pub fn write(self, out: &mut [u8]) -> Written
+        requires { largest_result ≤ length out.old }
+        ensures { Wrote self.entry out.old result out.new }
+    {
+        if self.is_plain() {
+            self.write_plain(out)
+        } else {
+            self.write_retagged(out)
+        }
     }
 }

@@ -3,4 +3,5 @@
 
 pub mod leaving; // one copy
 pub mod draining; // every copy of a port
+pub mod departing; // a copy of which all is in range
 pub mod bytes; // the bytes that leave

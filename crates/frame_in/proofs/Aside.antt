@@ -11,6 +11,7 @@ use Rattle.rules.specs.Choice.{Each, nobody, also}
 use Rattle.rules.specs.Cells.{cells}
 use Rattle.rules.specs.Arguments.{bit}
 use Rattle.rules.specs.Counters.{counter_number}
+use Rattle.rules.specs.declared.counters.Counter.TheVariants.{Accepted as accepted}
 use Rattle.layout.specs.Places.{free_count_word, first_free_word, frame_word, next_word, counter_word, size_unit}
 use Rattle.cells.specs.Chains.{next_in, next, follow, walk, behind}
 use Rattle.cells.specs.Bytes.{store_cells}
@@ -18,7 +19,7 @@ use Rattle.cells.specs.Stored.{stored_bytes}
 use Rattle.cells.specs.Free.{free_count, first_free, room_for, taken}
 use Rattle.cells.proofs.Paths.{follow_same}
 use Rattle.arrival.specs.declared.plan.Masks.{Masks}
-use Rattle.arrival.specs.declared.plan.Plan.{Plan}
+use Rattle.arrival.specs.declared.plan.Offer.{Offer}
 use Rattle.arrival.specs.Candidates.{ports_in}
 use Rattle.layout.specs.Bits.{less}
 use Rattle.frame_in.specs.Carried.{each_port, bump_at, push_at, enqueue_at, counted_falls, count_if, counted_with, joined_at, stored_at}
@@ -75,11 +76,14 @@ module _ (n queue first : ℕ) (low : queue ≤ 3) (p k : ℕ) (port : p < 5) (s
 
 -- ---- counters one after another
 
-module _ (n : ℕ) (plan : Plan) (frame memory : List ℕ) (low : plan.queue ≤ 3) where
+module _ (n : ℕ) (offer : Offer) (frame memory : List ℕ) where
+  low : offer.queue.number ≤ 3
+  low = let there = offer.queue.there in omega (arith, there)
+
   pub record Aside (f : List ℕ → List ℕ) : Type 0 where
     pub room : (l : List ℕ) (j : ℕ) → room_for n j (f l) ≡ room_for n j l
-    pub stored : (l : List ℕ) → stored_at n plan memory (f l) frame ≡ stored_at n plan memory l frame
-    pub joined : (l : List ℕ) → joined_at n plan frame (f l) ≡ f (joined_at n plan frame l)
+    pub stored : (l : List ℕ) → stored_at n offer memory (f l) frame ≡ stored_at n offer memory l frame
+    pub joined : (l : List ℕ) → joined_at n offer frame (f l) ≡ f (joined_at n offer frame l)
 
   none : Aside (λ l. l)
   none = record { room = λ l j. refl; stored = λ l. refl; joined = λ l. refl }
@@ -98,10 +102,10 @@ module _ (n : ℕ) (plan : Plan) (frame memory : List ℕ) (low : plan.queue ≤
     one p port =
         record {
           room = λ l j. room_kept p k port small off l n j;
-          stored = λ l. ap (λ (cs : List ℕ). store_cells memory cs (stored_bytes plan.header ++ frame)) (follow_kept p k port small off l n (cells (length frame)));
-          joined = λ l. ap (λ (x : ℕ). each_port (enqueue_at n plan.queue x) (ports_in plan.left) (taken n (cells (length frame)) plan.left (bump_at k p l))) (first_kept p k port small off l)
-              ∙ ap (each_port (enqueue_at n plan.queue (first_free l)) (ports_in plan.left)) (taken_apart p k port small off l n (cells (length frame)) plan.left)
-              ∙ sym (enqueue_later n plan.queue (first_free l) low p k port small off (ports_in plan.left) (taken n (cells (length frame)) plan.left l));
+          stored = λ l. ap (λ (cs : List ℕ). store_cells memory cs (stored_bytes offer.header ++ frame)) (follow_kept p k port small off l n (cells (length frame)));
+          joined = λ l. ap (λ (x : ℕ). each_port (enqueue_at n offer.queue.number x) (ports_in offer.masks.left) (taken n (cells (length frame)) offer.masks.left (bump_at k p l))) (first_kept p k port small off l)
+              ∙ ap (each_port (enqueue_at n offer.queue.number (first_free l)) (ports_in offer.masks.left)) (taken_apart p k port small off l n (cells (length frame)) offer.masks.left)
+              ∙ sym (enqueue_later n offer.queue.number (first_free l) low p k port small off (ports_in offer.masks.left) (taken n (cells (length frame)) offer.masks.left l));
         }
 
     each : {ps : List ℕ} → Each (λ (p : ℕ). p < 5) ps → Aside (each_port (bump_at k) ps)
@@ -123,7 +127,7 @@ module _ (n : ℕ) (plan : Plan) (frame memory : List ℕ) (low : plan.queue ≤
   lesson true p h = one 15 (omega arith) (λ e. omega arith) p h
   lesson false p h = none
 
-  pub accepted_aside : (p : ℕ) → p < 5 → (unlearned : Bool) (m : Masks) → Aside (counted_with 14 p unlearned m)
+  pub accepted_aside : (p : ℕ) → p < 5 → (unlearned : Bool) (m : Masks) → Aside (counted_with accepted p unlearned m)
   unfolding counted_with counter_number
   accepted_aside p h unlearned m =
       after (after (after (one 0 (omega arith) (λ e. omega arith) p h) (lesson unlearned p h)) (falls m)) (one 14 (omega arith) (λ e. omega arith) p h)

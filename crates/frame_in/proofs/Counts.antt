@@ -11,7 +11,8 @@ use Rattle.std.specs.Prelude.{if◌then◌else◌}
 use Rattle.rules.specs.Choice.{is_empty}
 use Rattle.rules.specs.Facts.{Facts}
 use Rattle.rules.specs.Outcomes.{Frame, outcome_of}
-use Rattle.rules.specs.Counters.{counter_number, offered}
+use Rattle.rules.specs.Counters.{counter_number}
+use Rattle.rules.specs.declared.counters.Counter.TheVariants.{Offered as offered}
 use Rattle.rules.specs.PortTests.{Test, passes, not_member, arrival, elsewhere, state, queue_off, ports_left}
 use Rattle.rules.specs.Arguments.{bit}
 use Rattle.rules.specs.Numbers.{all_ports}

@@ -17,7 +17,7 @@ use Rattle.machine.specs.FrameIn.{mask}
 use Rattle.layout.specs.Places.{counter_word}
 use Rattle.layout.proofs.BitLaws.{bits_zero}
 use Rattle.arrival.specs.Candidates.{ports_in}
-use Rattle.frame_in.specs.Carried.{each_port, if_set, bump_at}
+use Rattle.frame_in.specs.Carried.{each_port, bump_at}
 
 -- ---- one turn for each port
 
@@ -30,17 +30,21 @@ module _ {A : Type 0} (f : ℕ → A → A) (m : ℕ) where
   unfolding ports_from ports_in run
   each_starts x = refl
 
-  turn : (p : ℕ) (ps : List ℕ) (b : Bool) (x : A) → each_port f ps (if b then f p x else x) ≡ each_port f (if b then (p ∷ ps) else ps) x
-  unfolding each_port
-  turn p ps true x = refl
-  turn p ps false x = refl
+  -- the port's turn: it is one of the mask, or not
+  module _ (p : ℕ) (x : A) (h : p < 5) where
+    more : 5 - p ≡ suc (5 - (p + 1))
+    more = omega arith
 
-  pub each_turn : (p : ℕ) (x : A) → p < 5 → each_port f (ports_from m (p + 1)) (if_set f m p x) ≡ each_port f (ports_from m p) x
-  unfolding ports_from run sift if_set
-  each_turn p x h =
-      let more : 5 - p ≡ suc (5 - (p + 1)) = omega arith in
-      let next : suc p ≡ p + 1 = omega arith in
-      rw (more, next) (turn p (sift (bit m) (run (p + 1) (5 - (p + 1)))) (bit m p) x)
+    next : suc p ≡ p + 1
+    next = omega arith
+
+    pub each_here : bit m p ≡ true → each_port f (ports_from m (p + 1)) (f p x) ≡ each_port f (ports_from m p) x
+    unfolding ports_from run sift each_port
+    each_here e = rw (more, next, e)
+
+    pub each_past : bit m p ≡ false → each_port f (ports_from m (p + 1)) x ≡ each_port f (ports_from m p) x
+    unfolding ports_from run sift each_port
+    each_past e = rw (more, next, e)
 
   pub each_ends : (p : ℕ) (x : A) → 5 ≤ p → each_port f (ports_from m p) x ≡ x
   unfolding ports_from run sift each_port
@@ -49,14 +53,6 @@ module _ {A : Type 0} (f : ℕ → A → A) (m : ℕ) where
   pub each_none : (x : A) → m ≡ 0 → x ≡ each_port f (ports_in m) x
   unfolding ports_in sift each_port
   each_none x e = let b = bits_zero m e in rw (b 0, b 1, b 2, b 3, b 4)
-
-  pub if_set_law : (p : ℕ) (x : A) → bit m p ≡ true → f p x ≡ if_set f m p x
-  unfolding if_set
-  if_set_law p x e = rw e
-
-  pub if_clear : (p : ℕ) (x : A) → bit m p ≡ false → x ≡ if_set f m p x
-  unfolding if_set
-  if_clear p x e = rw e
 
 -- ---- two runs in one
 

@@ -1,67 +1,69 @@
 -- The writes put together. Assumes nothing.
-use Prim.Native.Nat.{ℕ, ◌<◌, ◌≤◌}
+use Prim.Native.Nat.{ℕ, ◌<◌}
 use mathlib.Core.Path.{◌≡◌, refl, sym, ap, ◌∙◌}
 use mathlib.Core.Bool.{Bool, true, false}
 use mathlib.Core.List.{List, ◌++◌}
-use native.Mathlib.Omega.{arith}
-use borrow.Author.Tests.{eq-eqb, ne_eqb, leb-true, ltb-true, lt-ltb, le-ltb, leb-false}
+use borrow.Author.Tests.{leb-true, ltb-true, lt-ltb, le-ltb, leb-false}
 use lib.Dec.{leb, ltb}
 use lib.ListN.{length}
 use Rattle.rules.specs.Cells.{cells}
-use Rattle.rules.specs.Counters.{counter_number, accepted}
+use Rattle.rules.specs.Reasons.{reason_number}
+use Rattle.rules.specs.declared.reasons.Reason.{Reason}
+use Rattle.rules.specs.declared.counters.Counter.TheVariants.{Reason as reason, Accepted as accepted}
 use Rattle.rules.proofs.Choice.{on}
+use Rattle.std.specs.Prelude.{Option, Result, Ok, Err}
+use Rattle.layout.specs.declared.damage.Damaged.{Damaged}
 use Rattle.layout.specs.declared.answers.Answer.{Answer}
 use Rattle.layout.specs.Answers.{done_with}
 use Rattle.cells.specs.Chains.{follow, behind}
 use Rattle.cells.specs.Bytes.{store_cells, store_from}
 use Rattle.cells.specs.Stored.{stored_bytes}
 use Rattle.cells.specs.Free.{free_count, first_free, room_for, taken}
-use Rattle.cells.specs.declared.free.Room.TheVariants.{Enough, NoRoom, Damaged}
-use Rattle.arrival.specs.declared.plan.Plan.{Plan}
+use Rattle.arrival.specs.declared.plan.Lesson.{Lesson}
+use Rattle.arrival.specs.declared.plan.Masks.{Masks}
+use Rattle.arrival.specs.declared.plan.Offer.{Offer}
+use Rattle.arrival.specs.declared.plan.Plan.TheVariants.{Drop, Queue}
 use Rattle.arrival.specs.Candidates.{ports_in}
-use Rattle.frame_in.specs.Carried.{each_port, counted_with, outcome_counter, enqueue_at, joined_at, joined_by, stored_at, stored_by, join_at, lesson_by, carried_out, dropped_out}
+use Rattle.frame_in.specs.Carried.{each_port, counted_with, enqueue_at, joined_at, stored_at, join_at, lesson_by, carried_out}
 use Rattle.frame_in.proofs.Aside.{Aside, accepted_aside}
 use Rattle.frame_in.specs.Call.{Memories}
 
 -- ---- room
 
-enough_not_damaged : Enough ≡ Damaged → ⊥
-enough_not_damaged q = let z : ◌≡◌ {A = ℕ} 0 1 = cc in omega arith
+damaged_not_ok : {b : Bool} → ◌≡◌ {A = Result Bool Damaged} (Err (record {})) (Ok b) → ⊥
+damaged_not_ok q = cc
 
-enough_not_none : Enough ≡ NoRoom → ⊥
-enough_not_none q = let z : ◌≡◌ {A = ℕ} 0 1 = cc in omega arith
-
-none_not_damaged : NoRoom ≡ Damaged → ⊥
-none_not_damaged q = let z : ◌≡◌ {A = ℕ} 0 1 = cc in omega arith
+false_not_true : ◌≡◌ {A = Result Bool Damaged} (Ok false) (Ok true) → ⊥
+false_not_true q = cc
 
 module _ (n k : ℕ) (l : List ℕ) where
-  pub record Enough' : Type 0 where
+  pub record Enough : Type 0 where
     pub few : ltb (free_count l) k ≡ false
     pub below : ltb (first_free l) n ≡ true
 
-  pub enough : room_for n k l ≡ Enough → Enough'
+  pub enough : room_for n k l ≡ Ok true → Enough
   unfolding room_for
   enough h =
       on (leb (free_count l) n)
       (λ a. on (leb k (free_count l))
       (λ b. on (ltb (first_free l) n)
       (λ c. record { few = le-ltb (free_count l) k (leb-true k (free_count l) b); below = c })
-      (λ c. absurd (enough_not_damaged (sym (rw (a, b, c) at h)))))
-      (λ b. absurd (enough_not_none (sym (rw (a, b) at h)))))
-      (λ a. absurd (enough_not_damaged (sym (rw a at h))))
+      (λ c. absurd (damaged_not_ok (rw (a, b, c) at h))))
+      (λ b. absurd (false_not_true (rw (a, b) at h))))
+      (λ a. absurd (damaged_not_ok (rw a at h)))
 
-  pub no_room_law : room_for n k l ≡ NoRoom → ltb (free_count l) k ≡ true
+  pub no_room_law : room_for n k l ≡ Ok false → ltb (free_count l) k ≡ true
   unfolding room_for
   no_room_law h =
       on (leb (free_count l) n)
       (λ a. on (leb k (free_count l))
       (λ b. on (ltb (first_free l) n)
-      (λ c. absurd (enough_not_none (rw (a, b, c) at h)))
-      (λ c. absurd (none_not_damaged (sym (rw (a, b, c) at h)))))
+      (λ c. absurd (false_not_true (sym (rw (a, b, c) at h))))
+      (λ c. absurd (damaged_not_ok (rw (a, b, c) at h))))
       (λ b. lt-ltb (free_count l) k (leb-false k (free_count l) b)))
-      (λ a. absurd (none_not_damaged (sym (rw a at h))))
+      (λ a. absurd (damaged_not_ok (rw a at h)))
 
-pub first_below : (n k : ℕ) (l : List ℕ) → room_for n k l ≡ Enough → first_free l < n
+pub first_below : (n k : ℕ) (l : List ℕ) → room_for n k l ≡ Ok true → first_free l < n
 first_below n k l h = ltb-true (first_free l) n (enough n k l h).below
 
 -- ---- cells and queues
@@ -77,87 +79,54 @@ memory_is n l y c bytes cells e = ap (λ (p : ℕ × List ℕ). p.1) e
 both : {x x' y y' : List ℕ} → x ≡ x' → y ≡ y' → ◌≡◌ {A = List ℕ × List ℕ} (x, y) (x', y')
 both p q = cc
 
-module _ (n : ℕ) (plan : Plan) (frame m l : List ℕ) where
-  stored : store_cells m (follow n l (cells (length frame)) (first_free l)) (stored_bytes plan.header ++ frame) ≡ stored_at n plan m l frame
+module _ (n : ℕ) (offer : Offer) (frame m l : List ℕ) where
+  stored : store_cells m (follow n l (cells (length frame)) (first_free l)) (stored_bytes offer.header ++ frame) ≡ stored_at n offer m l frame
   unfolding stored_at
   stored = refl
 
   joined : (k : ℕ) → k ≡ cells (length frame)
-      → each_port (enqueue_at n plan.queue (first_free l)) (ports_in plan.left) (taken n k plan.left l) ≡ joined_at n plan frame l
+      → each_port (enqueue_at n offer.queue.number (first_free l)) (ports_in offer.masks.left) (taken n k offer.masks.left l) ≡ joined_at n offer frame l
   unfolding joined_at
   joined k a = rw a
 
   pub join_is : (k : ℕ) {m₁ l₁ l₂ : List ℕ} {after : ℕ} → k ≡ cells (length frame)
-      → ◌≡◌ {A = ℕ × List ℕ} (after, m₁) (store_from n l (cells (length frame)) (first_free l) (stored_bytes plan.header ++ frame) m) → l₁ ≡ taken n k plan.left l
-      → l₂ ≡ each_port (enqueue_at n plan.queue (first_free l)) (ports_in plan.left) l₁ → ◌≡◌ {A = List ℕ × List ℕ} (m₁, l₂) (join_at n plan frame m l)
+      → ◌≡◌ {A = ℕ × List ℕ} (after, m₁) (store_from n l (cells (length frame)) (first_free l) (stored_bytes offer.header ++ frame) m) → l₁ ≡ taken n k offer.masks.left l
+      → l₂ ≡ each_port (enqueue_at n offer.queue.number (first_free l)) (ports_in offer.masks.left) l₁ → ◌≡◌ {A = List ℕ × List ℕ} (m₁, l₂) (join_at n offer frame m l)
   join_is k a d e f =
-      both (memory_is n l (cells (length frame)) (first_free l) (stored_bytes plan.header ++ frame) m d ∙ stored)
-      (f ∙ ap (each_port (enqueue_at n plan.queue (first_free l)) (ports_in plan.left)) e ∙ joined k a)
+      both (memory_is n l (cells (length frame)) (first_free l) (stored_bytes offer.header ++ frame) m d ∙ stored)
+      (f ∙ ap (each_port (enqueue_at n offer.queue.number (first_free l)) (ports_in offer.masks.left)) e ∙ joined k a)
 
 four : {w w' : Answer} {x x' y y' z z' : List ℕ} → w ≡ w' → x ≡ x' → y ≡ y' → z ≡ z' → ◌≡◌ {A = Answer × Memories} (w, (x, y, z)) (w', (x', y', z'))
 four p q r s = cc
 
-pub dropped_made : (plan : Plan) (port : ℕ) (l a : List ℕ) {r : Answer} {l₁ a₁ : List ℕ} {unlearned : Bool}
-    → ◌≡◌ {A = Bool × List ℕ} (unlearned, a₁) (lesson_by plan.lesson port a) → l₁ ≡ counted_with plan.reason port unlearned plan.masks l
-    → r ≡ done_with plan.reason plan.left → ◌≡◌ {A = Answer × (List ℕ × List ℕ)} (r, (l₁, a₁)) (dropped_out plan port l a)
-unfolding dropped_out
-dropped_made plan port l a {r} {l₁} {a₁} {unlearned} t c d =
-    let u : unlearned ≡ (lesson_by plan.lesson port a).0 = ap (λ (p : Bool × List ℕ). p.0) t in
-    let ta : a₁ ≡ (lesson_by plan.lesson port a).1 = ap (λ (p : Bool × List ℕ). p.1) t in
-    three d (c ∙ ap (λ (b : Bool). counted_with plan.reason port b plan.masks l) u) ta
-  where
-    three : {w w' : Answer} {x x' y y' : List ℕ} → w ≡ w' → x ≡ x' → y ≡ y' → ◌≡◌ {A = Answer × (List ℕ × List ℕ)} (w, (x, y)) (w', (x', y'))
-    three p q r = cc
+module _ (n : ℕ) (lesson : Option Lesson) (frame m l a : List ℕ) (port : ℕ) {unlearned : Bool} {a₁ : List ℕ}
+    (taught : ◌≡◌ {A = Bool × List ℕ} (unlearned, a₁) (lesson_by lesson port a)) where
+  unlearned_is : unlearned ≡ (lesson_by lesson port a).0
+  unlearned_is = ap (λ (p : Bool × List ℕ). p.0) taught
 
-module _ (n : ℕ) (plan : Plan) (frame m l : List ℕ) (port : ℕ) where
+  addresses_are : a₁ ≡ (lesson_by lesson port a).1
+  addresses_are = ap (λ (p : Bool × List ℕ). p.1) taught
+
+  pub dropped_is : (masks : Masks) (r : Reason) {x : ℕ} {l₁ : List ℕ} → l₁ ≡ counted_with (reason r) port unlearned masks l → x ≡ reason_number r
+      → ◌≡◌ {A = Answer × Memories} (done_with x 0, (m, l₁, a₁)) (carried_out n (Drop lesson masks r) port frame m l a)
+  unfolding carried_out
+  dropped_is masks r c e =
+      four (ap (λ (k : ℕ). done_with k 0) e) refl (c ∙ ap (λ (b : Bool). counted_with (reason r) port b masks l) unlearned_is) addresses_are
+
   -- queued: the counters went up before
-  module _ (zero : plan.reason ≡ 0) (low : plan.queue ≤ 3) (there : port ≤ 4) (unlearned : Bool) (l₁ : List ℕ)
-      (counts : l₁ ≡ counted_with (counter_number accepted) port unlearned plan.masks l) where
-    aside : Aside n plan frame m low (counted_with 14 port unlearned plan.masks)
-    aside = accepted_aside n plan frame m low port (omega arith) unlearned plan.masks
+  module _ (offer : Offer) (there : port < 5) {l₁ : List ℕ} (counts : l₁ ≡ counted_with accepted port unlearned offer.masks l) where
+    aside : Aside n offer frame m (counted_with accepted port unlearned offer.masks)
+    aside = accepted_aside n offer frame m port there unlearned offer.masks
 
-    counts_are : l₁ ≡ counted_with 14 port unlearned plan.masks l
-    unfolding counter_number
-    counts_are = counts
+    pub room_counted : (k : ℕ) → room_for n k l ≡ Ok true → room_for n k l₁ ≡ Ok true
+    room_counted k h = ap (room_for n k) counts ∙ aside.room l k ∙ h
 
-    pub room_counted : (k : ℕ) → room_for n k l ≡ Enough → room_for n k l₁ ≡ Enough
-    room_counted k h = ap (room_for n k) counts_are ∙ aside.room l k ∙ h
-
-    stored_zero : stored_at n plan m l frame ≡ stored_by n plan m l frame
-    unfolding stored_by
-    stored_zero = rw (eq-eqb plan.reason 0 zero)
-
-    joined_zero : joined_at n plan frame l ≡ joined_by n plan frame l
-    unfolding joined_by
-    joined_zero = rw (eq-eqb plan.reason 0 zero)
-
-    outcome_zero : 14 ≡ outcome_counter plan.reason
-    unfolding outcome_counter counter_number
-    outcome_zero = rw (eq-eqb plan.reason 0 zero)
-
-    pub accepted_is : (a : List ℕ) {r : Answer} {m₁ l₂ a₁ : List ℕ} → ◌≡◌ {A = Bool × List ℕ} (unlearned, a₁) (lesson_by plan.lesson port a)
-        → ◌≡◌ {A = List ℕ × List ℕ} (m₁, l₂) (join_at n plan frame m l₁) → r ≡ done_with 0 plan.left
-        → ◌≡◌ {A = Answer × Memories} (r, (m₁, l₂, a₁)) (carried_out n plan port frame m l a)
+    pub queued_is : {m₁ l₂ : List ℕ} → ◌≡◌ {A = List ℕ × List ℕ} (m₁, l₂) (join_at n offer frame m l₁)
+        → ◌≡◌ {A = Answer × Memories} (done_with 0 offer.masks.left, (m₁, l₂, a₁)) (carried_out n (Queue lesson offer) port frame m l a)
     unfolding carried_out
-    accepted_is a {r} {m₁} {l₂} {a₁} t j d =
-        let jm : m₁ ≡ stored_at n plan m l₁ frame = ap (λ (p : List ℕ × List ℕ). p.0) j in
-        let jl : l₂ ≡ joined_at n plan frame l₁ = ap (λ (p : List ℕ × List ℕ). p.1) j in
-        let u : unlearned ≡ (lesson_by plan.lesson port a).0 = ap (λ (p : Bool × List ℕ). p.0) t in
-        let ta : a₁ ≡ (lesson_by plan.lesson port a).1 = ap (λ (p : Bool × List ℕ). p.1) t in
-        four (d ∙ ap (λ (k : ℕ). done_with k plan.left) (sym zero))
-        (jm ∙ ap (λ (x : List ℕ). stored_at n plan m x frame) counts_are ∙ aside.stored l ∙ stored_zero)
-        (jl ∙ ap (joined_at n plan frame) counts_are ∙ aside.joined l
-        ∙ ap (λ (x : List ℕ). counted_with 14 port unlearned plan.masks x) joined_zero
-        ∙ ap (λ (b : Bool). counted_with 14 port b plan.masks (joined_by n plan frame l)) u
-        ∙ ap (λ (k : ℕ). counted_with k port (lesson_by plan.lesson port a).0 plan.masks (joined_by n plan frame l)) outcome_zero)
-        ta
-
-  -- dropped
-  pub dropped_is : (plan.reason ≡ 0 → ⊥) → (a : List ℕ) {r : Answer} {l₁ a₁ : List ℕ} → ◌≡◌ {A = Answer × (List ℕ × List ℕ)} (r, (l₁, a₁)) (dropped_out plan port l a)
-      → ◌≡◌ {A = Answer × Memories} (r, (m, l₁, a₁)) (carried_out n plan port frame m l a)
-  unfolding carried_out dropped_out stored_by joined_by outcome_counter
-  dropped_is some a {r} {l₁} {a₁} e =
-      let d = ap (λ (p : Answer × (List ℕ × List ℕ)). p.0) e in
-      let el = ap (λ (p : Answer × (List ℕ × List ℕ)). p.1.0) e in
-      let ea = ap (λ (p : Answer × (List ℕ × List ℕ)). p.1.1) e in
-      rw (ne_eqb plan.reason 0 some) (four d refl el ea)
+    queued_is j =
+        four refl
+        (ap (λ (p : List ℕ × List ℕ). p.0) j ∙ ap (λ (x : List ℕ). stored_at n offer m x frame) counts ∙ aside.stored l)
+        (ap (λ (p : List ℕ × List ℕ). p.1) j ∙ ap (joined_at n offer frame) counts ∙ aside.joined l
+        ∙ ap (λ (b : Bool). counted_with accepted port b offer.masks (joined_at n offer frame l)) unlearned_is)
+        addresses_are

@@ -1,17 +1,17 @@
 -- The plans that a judgement comes to, each right by what has been found. Assumes nothing.
-use Prim.Native.Nat.{ℕ, ◌^◌, ◌≤◌, ◌<◌}
-use mathlib.Core.Path.{◌≡◌, refl, sym, ap, subst, ◌∙◌}
-use mathlib.Core.Bool.{true, false, not, true≢false}
+use Prim.Native.Nat.{ℕ, ◌≤◌}
+use mathlib.Core.Path.{◌≡◌, refl, sym, ap, ◌∙◌}
+use mathlib.Core.Bool.{Bool, true, false, not, true≢false}
 use mathlib.Core.List.{List}
-use mathlib.Core.Option.{some}
-use native.Mathlib.Omega.{arith}
-use borrow.Author.Tests.{eqb-true, eqb-false}
+use Rattle.std.specs.Prelude.{Option, None as none, Some as some, Result, Ok, Err, IsErr}
 use lib.Dec.{eqb, ltb}
 use lib.ListN.{length}
 use Rattle.rules.specs.Lines.{first}
 use Rattle.rules.specs.Cells.{cells}
-use Rattle.rules.specs.Reasons.{Reason, short, long, group_source, tag_count, port_blocking, port_listening, vid4095, no_vlan, no_member, port_learning, no_candidate, no_port_left, no_room, reason_number}
-use Rattle.rules.specs.Counters.{counter_number, state_out, queue_out}
+use Rattle.rules.specs.declared.reasons.Reason.{Reason}
+use Rattle.rules.specs.declared.reasons.Reason.TheVariants.{NoPortLeft as no_port_left, NoRoom as no_room}
+use Rattle.rules.specs.Counters.{counter_number}
+use Rattle.rules.specs.declared.counters.Counter.TheVariants.{StateOut as state_out, QueueOut as queue_out}
 use Rattle.rules.specs.PortTests.{ports_left}
 use Rattle.rules.specs.Facts.{Facts}
 use Rattle.rules.specs.ReasonTable.{queueing, part_number, reason_table, lines_in, rows_of, reason_for}
@@ -19,97 +19,57 @@ use Rattle.rules.specs.Outcomes.{drops, queues, frame_of, outcome_by, outcome_of
 use Rattle.rules.specs.Choice.{sift, is_empty}
 use Rattle.rules.proofs.Choice.{on}
 use Rattle.machine.specs.FrameIn.{candidate_events}
-use Rattle.layout.specs.Places.{cell_bytes}
+use Rattle.layout.specs.Lengths.{cell_count}
+use Rattle.layout.specs.declared.damage.Damaged.{Damaged}
+use Rattle.layout.specs.Bits.{less}
 use Rattle.addresses.specs.Numbers.{table_of}
-use Rattle.addresses.specs.Search.{place_of}
 use Rattle.cells.specs.Free.{free_count, room_for}
-use Rattle.cells.specs.declared.free.Room.{Room}
-use Rattle.cells.specs.declared.free.Room.TheVariants.{Enough, NoRoom, Damaged}
+use Rattle.queues.specs.Lists.{all_waiting_in_range}
 use Rattle.arrival.specs.declared.plan.Lesson.{Lesson}
+use Rattle.arrival.specs.declared.plan.Masks.{Masks}
 use Rattle.arrival.specs.declared.plan.Offer.{Offer}
 use Rattle.arrival.specs.declared.plan.Plan.{Plan}
-use Rattle.arrival.specs.Plans.{no_lesson, no_masks, damaged_plan, lesson_plan, drop_plan, offer_plan}
+use Rattle.arrival.specs.declared.plan.Plan.TheVariants.{Drop, Queue}
+use Rattle.arrival.specs.Plans.{no_masks}
 use Rattle.arrival.specs.Stored.{operation_for, stored_header}
 use Rattle.arrival.specs.Candidates.{MasksAre}
-use Rattle.layout.specs.Bits.{less}
-use Rattle.queues.specs.Lists.{all_waiting_in_range}
-use Rattle.arrival.specs.Room.{room_met, met_room, plan_offered}
-use Rattle.frame_in.specs.Carried.{bump_at, counted_falls, lesson_by, Ready}
+use Rattle.arrival.specs.Room.{room_met, met_room, with_room, plan_offered}
+use Rattle.frame_in.specs.Carried.{bump_at, counted_falls, lesson_by}
 use Rattle.frame_in.specs.Met.{met}
 use Rattle.frame_in.specs.Call.{facts_in, learned_in}
 use Rattle.frame_in.specs.Counting.{counted}
-use Rattle.frame_in.specs.Judged.{Lent, Judged}
+use Rattle.frame_in.specs.Judged.{Right, Judged}
 use Rattle.frame_in.proofs.Facts.{facts_room}
 use Rattle.frame_in.proofs.Each.{each_none}
 use Rattle.frame_in.proofs.Counts.{tests_counted, left_is, none_is}
-use Rattle.arrival.proofs.RoomOutcomes.{none_left, room_damaged, room_none, room_enough, queues_damaged}
 use Rattle.frame_in.proofs.Joins.{enough, no_room_law}
-use Rattle.frame_in.proofs.Outcomes.{not_zero, dropped_carried, queued_carried}
+use Rattle.frame_in.proofs.Outcomes.{dropped_carried, queued_carried}
 
-reason_small : (r : Reason) → reason_number r < 32
-unfolding reason_number
-reason_small short = omega arith
-reason_small long = omega arith
-reason_small group_source = omega arith
-reason_small tag_count = omega arith
-reason_small port_blocking = omega arith
-reason_small port_listening = omega arith
-reason_small vid4095 = omega arith
-reason_small no_vlan = omega arith
-reason_small no_member = omega arith
-reason_small port_learning = omega arith
-reason_small no_candidate = omega arith
-reason_small no_port_left = omega arith
-reason_small no_room = omega arith
-
-pub never_zero : (r : Reason) → reason_number r ≡ 0 → ⊥
-never_zero r e = eqb-false (reason_number r) 0 (not_zero r) e
-
-on_room : {C : Type 0} (r : Room) → (r ≡ Damaged → C) → (r ≡ NoRoom → C) → (r ≡ Enough → C) → C
-on_room Damaged a b c = a refl
-on_room NoRoom a b c = b refl
-on_room Enough a b c = c refl
-
--- what is to be learned, and where
-pub record Taught (links addresses frame : List ℕ) (port : ℕ) (lesson : Lesson) : Type 0 where
-  pub key_small : lesson.key < 2 ^ 52
-  pub destination_there : place_of lesson.destination < 4112
-  pub source_there : place_of lesson.source < 4112
-  pub lesson_is : lesson_by lesson port addresses
-      ≡ (is_not_learned (facts_in links addresses port frame) (table_of addresses), learned_in links addresses port frame)
-
-module _ (links addresses frame : List ℕ) (n port : ℕ) (lent : Lent links addresses n port) where
+module _ (links addresses frame : List ℕ) (n port : ℕ) where
   abbrev f : Facts
   f = facts_in links addresses port frame
 
-  pub damaged_judged : met links addresses port frame ≡ true → Judged links addresses frame n port damaged_plan
-  damaged_judged h = record { damage = sym h; right = λ e. absurd (true≢false e) }
+  -- damage that was met
+  pub damage_judged : (judged : Result Plan Damaged) → IsErr judged → met links addresses port frame ≡ true → Judged links addresses frame n port judged
+  damage_judged (Err damage) e m = m
+  damage_judged (Ok plan) e m = absurd (true≢false (sym e))
 
-  pub nothing_taught : learns f ≡ false → Taught links addresses frame port no_lesson
+  -- what is to be learned
+  abbrev pub Taught : Option Lesson → Type 0
+  Taught lesson = lesson_by lesson port addresses ≡ (is_not_learned f (table_of addresses), learned_in links addresses port frame)
+
+  pub nothing_taught : learns f ≡ false → Taught none
   unfolding lesson_by learned_in is_not_learned
-  nothing_taught h = record { key_small = omega arith; destination_there = omega arith; source_there = omega arith; lesson_is = rw h }
-
-  -- a plan that drops is ready whatever memory holds
-  drop_ready : (plan : Plan) (r : Reason) → plan.reason ≡ reason_number r → plan.queue ≤ 3 → Taught links addresses frame port plan.lesson
-      → (memory : List ℕ) → length memory ≡ cell_bytes n → Ready n memory links frame plan
-  drop_ready plan r e q t memory size =
-      record {
-        most = lent.most;
-        links_long = omega (arith, lent.long);
-        cells_long = omega arith;
-        reason = rw e (reason_small r);
-        key = t.key_small;
-        destination = t.destination_there;
-        source = t.source_there;
-        queue = q;
-        longest = λ z. absurd (never_zero r (sym e ∙ z));
-        room = λ z. absurd (never_zero r (sym e ∙ z));
-        left = λ z. absurd (never_zero r (sym e ∙ z));
-      }
+  nothing_taught h = rw h
 
   drop_outcome : (r : Reason) → reason_for f ≡ some r → outcome_of f ≡ drops r
   unfolding outcome_of outcome_by
   drop_outcome r e = rw e
+
+  drop_right : (r : Reason) (lesson : Option Lesson) (masks : Masks) → met links addresses port frame ≡ false → reason_for f ≡ some r
+      → ((l : List ℕ) → counted (candidate_events f) l ≡ counted_falls masks l) → Taught lesson → Right links addresses frame n port (Drop lesson masks r)
+  drop_right r lesson masks m e tests taught =
+      record { unmet = m; ready = tt; carried = dropped_carried links addresses frame n port lesson masks tests taught r (drop_outcome r e) }
 
   -- ---- dropped before a candidate is tested
 
@@ -121,29 +81,20 @@ module _ (links addresses frame : List ℕ) (n port : ℕ) (lent : Lent links ad
   unfolding candidate_events counted counted_falls
   no_tests e l = rw e (each_none (bump_at (counter_number state_out)) (less 0 0) l nothing ∙ each_none (bump_at (counter_number queue_out)) (less 0 0) _ nothing)
 
-  pub lesson_judged : (r : Reason) (lesson : Lesson) → met links addresses port frame ≡ false → reason_for f ≡ some r → counts_tests f ≡ false
-      → Taught links addresses frame port lesson → Judged links addresses frame n port (lesson_plan (reason_number r) lesson)
-  lesson_judged r lesson m e c t =
-      record {
-        damage = sym m;
-        right = λ _. record {
-          ready = drop_ready (lesson_plan (reason_number r) lesson) r refl (omega arith) t;
-          carried = dropped_carried links addresses frame n port (lesson_plan (reason_number r) lesson) (no_tests c) t.lesson_is r (drop_outcome r e) refl refl;
-        };
-      }
+  pub untested_right : (r : Reason) (lesson : Option Lesson) → met links addresses port frame ≡ false → reason_for f ≡ some r → counts_tests f ≡ false
+      → Taught lesson → Right links addresses frame n port (Drop lesson no_masks r)
+  untested_right r lesson m e c taught = drop_right r lesson no_masks m e (no_tests c) taught
 
   -- before the look-up too
-  pub drop_judged : (r : Reason) (k : ℕ) → k ≡ reason_number r → met links addresses port frame ≡ false → reason_for f ≡ some r
-      → (learns f ≡ false) × (counts_tests f ≡ false) → Judged links addresses frame n port (drop_plan k)
-  drop_judged r k e m o s =
-      subst (λ (x : ℕ). Judged links addresses frame n port (drop_plan x)) (sym e)
-      (lesson_judged r no_lesson m o s.1 (nothing_taught s.0))
+  pub unlearned_right : (r : Reason) → met links addresses port frame ≡ false → reason_for f ≡ some r → (learns f ≡ false) × (counts_tests f ≡ false)
+      → Right links addresses frame n port (Drop none no_masks r)
+  unlearned_right r m e s = untested_right r none m e s.1 (nothing_taught s.0)
 
   -- ---- offered
 
-  module _ (tested : counts_tests f ≡ true) (reason_is : reason_for f ≡ first (rows_of queueing f)) (lesson : Lesson) (o : Offer)
-      (taught : Taught links addresses frame port lesson) (masks_are : MasksAre f.test o.masks) (queue_is : o.queue ≡ f.queue)
-      (queue_small : o.queue ≤ 3) (header_is : o.header ≡ stored_header (operation_for links f.vid) (frame_of f)) (longest : length frame ≤ 4083)
+  module _ (count : n ≡ cell_count links) (tested : counts_tests f ≡ true) (reason_is : reason_for f ≡ first (rows_of queueing f)) (lesson : Option Lesson) (o : Offer)
+      (taught : Taught lesson) (masks_are : MasksAre f.test o.masks) (queue_is : o.queue.number ≡ f.queue)
+      (header_is : o.header ≡ stored_header (operation_for links f.vid) (frame_of f)) (longest : length frame ≤ 4083)
       (met_is : met links addresses port frame ≡ met_room n links (length frame) o.masks.left) where
     offer_tests : (l : List ℕ) → counted (candidate_events f) l ≡ counted_falls o.masks l
     unfolding candidate_events
@@ -164,74 +115,39 @@ module _ (links addresses frame : List ℕ) (n port : ℕ) (lent : Lent links ad
     unfolding outcome_of outcome_by rows_of lines_in sift part_number reason_table first
     outcome_queued e h = rw (reason_is, is_none_is ∙ e, facts_room links addresses frame port ∙ h)
 
-    drop_offer : (r : Reason) → reason_for f ≡ some r → met links addresses port frame ≡ false → Judged links addresses frame n port (offer_plan (reason_number r) lesson o 0)
-    drop_offer r e m =
-        record {
-          damage = sym m;
-          right = λ _. record {
-            ready = drop_ready (offer_plan (reason_number r) lesson o 0) r refl queue_small taught;
-            carried = dropped_carried links addresses frame n port (offer_plan (reason_number r) lesson o 0) offer_tests taught.lesson_is r (drop_outcome r e) refl refl;
-          };
-        }
-
-    twelve : eqb o.masks.left 0 ≡ true → Judged links addresses frame n port (offer_plan 12 lesson o 0)
-    unfolding reason_number met_room
-    twelve e = drop_offer no_port_left (reason_none e) (met_is ∙ rw e)
+    twelve : eqb o.masks.left 0 ≡ true → Right links addresses frame n port (Drop lesson o.masks no_port_left)
+    unfolding met_room
+    twelve e = drop_right no_port_left lesson o.masks (met_is ∙ rw e) (reason_none e) offer_tests taught
 
     module _ (e : eqb o.masks.left 0 ≡ false) where
-      met_room_law : (room : Room) → room_for n (cells (length frame)) links ≡ room → met links addresses port frame ≡ room_met room (all_waiting_in_range links)
+      room_meets : (room : Result Bool Damaged) → room_for n (cells (length frame)) links ≡ room
+          → met links addresses port frame ≡ room_met room (all_waiting_in_range links)
       unfolding met_room
-      met_room_law room h = met_is ∙ rw (e, h)
+      room_meets room h = met_is ∙ rw (e, h)
 
-      thirteen : room_for n (cells (length frame)) links ≡ NoRoom → Judged links addresses frame n port (offer_plan 13 lesson o 0)
-      unfolding reason_number room_met
-      thirteen h = drop_offer no_room (reason_full e (no_room_law n (cells (length frame)) links h)) (met_room_law NoRoom h)
+      thirteen : room_for n (cells (length frame)) links ≡ Ok false → Right links addresses frame n port (Drop lesson o.masks no_room)
+      unfolding room_met
+      thirteen h =
+          drop_right no_room lesson o.masks (room_meets (Ok false) h) (reason_full e (no_room_law n (cells (length frame)) links h)) offer_tests taught
 
-      queued_ready : room_for n (cells (length frame)) links ≡ Enough → all_waiting_in_range links ≡ true → (memory : List ℕ) → length memory ≡ cell_bytes n
-          → Ready n memory links frame (offer_plan 0 lesson o o.masks.left)
-      queued_ready h r memory size =
+      queued : room_for n (cells (length frame)) links ≡ Ok true → all_waiting_in_range links ≡ true → Right links addresses frame n port (Queue lesson o)
+      unfolding room_met
+      queued h r =
           record {
-            most = lent.most;
-            links_long = omega (arith, lent.long);
-            cells_long = omega arith;
-            reason = omega arith;
-            key = taught.key_small;
-            destination = taught.destination_there;
-            source = taught.source_there;
-            queue = queue_small;
-            longest = λ z. longest;
-            room = λ z. h;
-            left = λ z. masks_are.small;
+            unmet = room_meets (Ok true) h ∙ ap not r;
+            ready = record { long = longest; left = masks_are.small; enough = h };
+            carried = queued_carried links addresses frame n port lesson o.masks offer_tests taught o.queue o.header
+                (outcome_queued e (enough n (cells (length frame)) links h).few) masks_are queue_is header_is count;
           }
 
-      queued_judged : room_for n (cells (length frame)) links ≡ Enough → all_waiting_in_range links ≡ true
-          → Judged links addresses frame n port (offer_plan 0 lesson o o.masks.left)
-      unfolding room_met
-      queued_judged h r =
-          record {
-            damage = sym (met_room_law Enough h ∙ ap not r);
-            right = λ _. record {
-              ready = queued_ready h r;
-              carried = queued_carried links addresses frame n port (offer_plan 0 lesson o o.masks.left) offer_tests taught.lesson_is
-                  (outcome_queued e (enough n (cells (length frame)) links h).few) refl masks_are refl queue_is queue_small header_is lent.count;
-            };
-          }
-
-      damaged_room : room_for n (cells (length frame)) links ≡ Damaged → Judged links addresses frame n port damaged_plan
-      unfolding room_met
-      damaged_room h = damaged_judged (met_room_law Damaged h)
-
-      damaged_queues : room_for n (cells (length frame)) links ≡ Enough → all_waiting_in_range links ≡ false → Judged links addresses frame n port damaged_plan
-      unfolding room_met
-      damaged_queues h r = damaged_judged (met_room_law Enough h ∙ ap not r)
+      with_room_judged : (room : Result Bool Damaged) → room_for n (cells (length frame)) links ≡ room
+          → Judged links addresses frame n port (with_room room (all_waiting_in_range links) lesson o)
+      unfolding with_room room_met
+      with_room_judged (Err damage) h = room_meets (Err damage) h
+      with_room_judged (Ok false) h = thirteen h
+      with_room_judged (Ok true) h =
+          on (all_waiting_in_range links) (λ r. rw r (queued h r)) (λ r. rw r (room_meets (Ok true) h ∙ ap not r))
 
     pub offer_judged : Judged links addresses frame n port (plan_offered n links (length frame) lesson o)
-    offer_judged =
-        on (eqb o.masks.left 0)
-        (λ e. subst (Judged links addresses frame n port) (none_left n links (length frame) lesson o (eqb-true _ _ e)) (twelve e))
-        (λ e. on_room (room_for n (cells (length frame)) links)
-        (λ h. subst (Judged links addresses frame n port) (room_damaged n links (length frame) lesson o (eqb-false _ _ e) h) (damaged_room e h))
-        (λ h. subst (Judged links addresses frame n port) (room_none n links (length frame) lesson o (eqb-false _ _ e) h) (thirteen e h))
-        (λ h. on (all_waiting_in_range links)
-        (λ r. subst (Judged links addresses frame n port) (room_enough n links (length frame) lesson o (eqb-false _ _ e) h r) (queued_judged e h r))
-        (λ r. subst (Judged links addresses frame n port) (queues_damaged n links (length frame) lesson o (eqb-false _ _ e) h r) (damaged_queues e h r))))
+    unfolding plan_offered
+    offer_judged = on (eqb o.masks.left 0) (λ e. rw e (twelve e)) (λ e. rw e (with_room_judged e (room_for n (cells (length frame)) links) refl))

@@ -3,12 +3,13 @@ use Prim.Native.Nat.{ℕ}
 use mathlib.Core.Path.{◌≡◌, refl, sym, ap, ◌∙◌}
 use mathlib.Core.Bool.{Bool, true, false, ◌||◌, not, true≢false}
 use mathlib.Core.List.{List, []}
-use mathlib.Core.Option.{none, some}
+use Rattle.std.specs.Prelude.{None as none, Some as some}
 use borrow.Author.Tests.{eq-eqb, ne_eqb}
 use lib.Dec.{eqb}
 use lib.ListN.{length}
 use Rattle.rules.specs.Lines.{first}
-use Rattle.rules.specs.Reasons.{Reason, port_learning, no_candidate, reason_number}
+use Rattle.rules.specs.declared.reasons.Reason.{Reason}
+use Rattle.rules.specs.declared.reasons.Reason.TheVariants.{PortLearning as port_learning, NoCandidate as no_candidate}
 use Rattle.rules.specs.Choice.{sift}
 use Rattle.rules.specs.PortTests.{Test, passes, not_member, arrival, elsewhere, state, queue_off, is_candidate, is_passed, any_candidate, ports_left}
 use Rattle.rules.specs.Facts.{Facts}
@@ -20,15 +21,16 @@ use Rattle.machine.specs.FrameIn.{mask}
 use Rattle.arrival.specs.declared.plan.Lesson.{Lesson}
 use Rattle.arrival.specs.declared.plan.Masks.{Masks}
 use Rattle.arrival.specs.declared.plan.Offer.{Offer}
-use Rattle.arrival.specs.Plans.{lesson_plan}
+use Rattle.arrival.specs.declared.plan.Plan.TheVariants.{Drop}
+use Rattle.arrival.specs.Plans.{no_masks}
 use Rattle.arrival.specs.Candidates.{MasksAre}
 use Rattle.arrival.specs.Room.{met_room, plan_offered}
 use Rattle.frame_in.specs.Met.{met_tests, met}
 use Rattle.frame_in.specs.Call.{facts_in}
-use Rattle.frame_in.specs.Judged.{Judged}
+use Rattle.frame_in.specs.Judged.{Right, Judged}
 use Rattle.frame_in.specs.Stages.{Tested}
 use Rattle.frame_in.proofs.Counts.{left_is}
-use Rattle.frame_in.proofs.Judgements.{Taught, lesson_judged, offer_judged}
+use Rattle.frame_in.proofs.Judgements.{untested_right, offer_judged}
 
 twice : (b : Bool) → not (not b) ≡ b
 twice true = refl
@@ -70,13 +72,11 @@ module _ (links addresses frame : List ℕ) (n port : ℕ) where
     abbrev f : Facts
     f = facts_in links addresses port frame
 
-    taught : Taught links addresses frame port l
-    taught = record { key_small = t.key_small; destination_there = t.destination_there; source_there = t.source_there; lesson_is = t.lesson_is }
-
     -- 10 or 11 that was found
-    choosing_judged : (r : Reason) → met links addresses port frame ≡ false → first (rows_of choosing f) ≡ some r → Judged links addresses frame n port (lesson_plan (reason_number r) l)
-    choosing_judged r m e =
-        lesson_judged links addresses frame n port t.way.lent r l m (reason_choosing f t.way.read t.ordinary t.entered r e) (choosing_stops f t.ordinary r e) taught
+    choosing_right : (r : Reason) → met links addresses port frame ≡ false → first (rows_of choosing f) ≡ some r
+        → Right links addresses frame n port (Drop (some l) no_masks r)
+    choosing_right r m e =
+        untested_right links addresses frame n port r (some l) m (reason_choosing f t.way.read t.ordinary t.entered r e) (choosing_stops f t.ordinary r e) t.lesson_is
 
     learning_met : learning ≡ true → met links addresses port frame ≡ false
     unfolding met_tests
@@ -86,9 +86,8 @@ module _ (links addresses frame : List ℕ) (n port : ℕ) where
     unfolding rows_of lines_in sift part_number reason_table first
     rule_ten e = rw (sym t.learning_is ∙ e)
 
-    pub ten : learning ≡ true → Judged links addresses frame n port (lesson_plan 10 l)
-    unfolding reason_number
-    ten e = choosing_judged port_learning (learning_met e) (rule_ten e)
+    pub ten : learning ≡ true → Right links addresses frame n port (Drop (some l) no_masks port_learning)
+    ten e = choosing_right port_learning (learning_met e) (rule_ten e)
 
     module _ (not_learning : learning ≡ false) where
       room_met_law : met links addresses port frame ≡ met_room n links (length frame) o.masks.left
@@ -113,9 +112,8 @@ module _ (links addresses frame : List ℕ) (n port : ℕ) where
         unfolding met_room
         eleven_met = room_met_law ∙ rw (none_left f.test o.masks t.masks_are no_candidate_law)
 
-        pub eleven : Judged links addresses frame n port (lesson_plan 11 l)
-        unfolding reason_number
-        eleven = choosing_judged no_candidate eleven_met rule_eleven
+        pub eleven : Right links addresses frame n port (Drop (some l) no_masks no_candidate)
+        eleven = choosing_right no_candidate eleven_met rule_eleven
 
       module _ (some_chosen : o.masks.candidates ≡ 0 → ⊥) where
         some_candidate : any_candidate f.test ≡ true
@@ -128,7 +126,7 @@ module _ (links addresses frame : List ℕ) (n port : ℕ) where
         counts : counts_tests f ≡ true
         counts = counts_then f (record { past = record { read = t.way.read; entered = λ _. t.entered }; chosen = λ _. chosen })
 
-        pub tested_offered : Judged links addresses frame n port (plan_offered n links (length frame) l o)
+        pub tested_offered : Judged links addresses frame n port (plan_offered n links (length frame) (some l) o)
         tested_offered =
-            offer_judged links addresses frame n port t.way.lent counts (reason_queueing f t.way.read t.ordinary t.entered chosen) l o taught
-            t.masks_are t.queue_is t.queue_small t.header_is t.way.longest room_met_law
+            offer_judged links addresses frame n port t.way.lent.count counts (reason_queueing f t.way.read t.ordinary t.entered chosen) (some l) o t.lesson_is
+            t.masks_are t.queue_is t.header_is t.way.longest room_met_law

@@ -1,12 +1,12 @@
 -- The look-ups: which ports are chosen, and that what is learned is the rules' lesson. Assumes nothing.
-use Prim.Native.Nat.{ℕ, ◌+◌, ◌^◌, ◌≤◌, ◌<◌}
+use Prim.Native.Nat.{ℕ, ◌^◌, ◌≤◌, ◌<◌}
 use mathlib.Core.Path.{◌≡◌, refl, sym, ap, ◌∙◌}
 use mathlib.Core.Bool.{Bool, true, false, not}
 use mathlib.Core.List.{List}
-use mathlib.Core.Option.{Option, none, some}
+use Rattle.std.specs.Prelude.{Option, None as none, Some as some, Result, Ok}
 use native.Mathlib.Omega.{arith}
 use lib.ListN.{length}
-use Rattle.rules.specs.Tags.{Bytes, is_group, address_at, destination, source}
+use Rattle.rules.specs.Tags.{is_group, destination, source}
 use Rattle.rules.specs.Tables.{Found as Match, at, nowhere}
 use Rattle.rules.specs.Addresses.{Entry, Table, LookUp as RuleLookUp, key, find, empty_for, group, answered as rule_answered, look_up as rule_look_up, after_look_up, learning_of, is_no_place, learn_by, learn}
 use Rattle.rules.specs.Arguments.{bit}
@@ -15,7 +15,7 @@ use Rattle.rules.specs.Facts.{Facts}
 use Rattle.rules.specs.Outcomes.{learning_for}
 use Rattle.rules.proofs.Choice.{on, eqb_sym}
 use Rattle.addresses.specs.Numbers.{table_of}
-use Rattle.addresses.specs.Search.{answered, look_up, place_of, damaged}
+use Rattle.addresses.specs.Search.{answered, look_up, place_of, found_by, damaged}
 use Rattle.addresses.specs.Writes.{marked_by, learned_by}
 use Rattle.addresses.specs.declared.LookUp.{LookUp}
 use Rattle.addresses.specs.declared.LookUp.TheVariants.{Found, Full}
@@ -23,36 +23,41 @@ use Rattle.addresses.proofs.LookUps.{look_up_finds, place_inside, port_inside}
 use Rattle.addresses.proofs.Steps.{step_theorems}
 use Rattle.addresses.proofs.Frames.{frame_theorems}
 use Rattle.arrival.specs.declared.plan.Lesson.{Lesson}
+use Rattle.layout.specs.declared.damage.Damaged.{Damaged}
 use Rattle.layout.proofs.BitLaws.{bit_power}
 use Rattle.arrival.specs.Candidates.{destination_look_up, chosen_mask, ChosenFits}
 use Rattle.arrival.proofs.Masks.{every_bit}
+pub use Rattle.arrival.proofs.Arrivals.{address_below}
 use Rattle.frame_in.specs.Carried.{learned_lesson, lesson_by}
 use Rattle.frame_in.specs.Call.{facts_in, lesson_in}
 use Rattle.frame_in.proofs.Facts.{facts_port, facts_source, facts_look_up, facts_chosen}
 
-pub address_below : (bytes : List ℕ) (i : ℕ) → Bytes bytes → address_at bytes i < 2 ^ 48
-unfolding address_at
-address_below bytes i each = omega (arith, each i, each (i + 1), each (i + 2), each (i + 3), each (i + 4), each (i + 5))
-
 -- ---- the ports chosen
 
-chosen_by : (m : List ℕ) (k : ℕ) (found : Match Entry) (empty : Option ℕ) → look_up m k ≡ answered found empty → (r : ℕ) → r < 5
-    → is_chosen (rule_answered found) r ≡ bit (chosen_mask (look_up m k)) r
+chosen_by : (m : List ℕ) (k : ℕ) (found : Match Entry) (empty : Option ℕ) → look_up m k ≡ Ok (answered found empty) → (r : ℕ) → r < 5
+    → is_chosen (rule_answered found) r ≡ bit (chosen_mask (found_by (look_up m k))) r
 unfolding is_chosen chosen_mask answered rule_answered
 chosen_by m k nowhere none e r h = rw e (sym (every_bit r h))
 chosen_by m k nowhere (some i) e r h = rw e (sym (every_bit r h))
 chosen_by m k (at i x) empty e r h = rw e (eqb_sym r x.port ∙ sym (bit_power x.port r))
 
-full_not_found : (port place : ℕ) → Full ≡ Found port place → ⊥
-full_not_found port place q = let z : ◌≡◌ {A = ℕ} 0 1 = cc in omega arith
+full_not_found : (port place : ℕ) → ◌≡◌ {A = Result LookUp Damaged} (Ok Full) (Ok (Found port place)) → ⊥
+full_not_found port place q = cc
+
+good : LookUp → Result LookUp Damaged
+good d = Ok d
 
 -- the port that a look-up finds is one of the five
-pub chosen_fits : (m : List ℕ) (gid address : ℕ) → ChosenFits (destination_look_up m gid address)
-unfolding destination_look_up
-chosen_fits m gid address =
-    on (is_group address)
-    (λ e. record { port_there = λ port place q. absurd (full_not_found port place (rw e at q)) })
-    (λ e. record { port_there = λ port place q. let small = port_inside m (key gid address) port place (rw e at q) in omega arith })
+pub chosen_fits : (m : List ℕ) (gid address : ℕ) (d : LookUp) → Ok d ≡ destination_look_up m gid address → ChosenFits d
+unfolding destination_look_up good
+chosen_fits m gid address d d_is =
+    record {
+      port_there = λ port place q.
+          let found : destination_look_up m gid address ≡ Ok (Found port place) = sym d_is ∙ ap good q in
+          on (is_group address)
+          (λ e. absurd (full_not_found port place (rw e at found)))
+          (λ e. let small = port_inside m (key gid address) port place (rw e at found) in omega arith);
+    }
 
 -- `m`: address memory
 module _ (links m frame : List ℕ) (port gid : ℕ) (gid_is : (facts_in links m port frame).gid ≡ gid)
@@ -80,7 +85,7 @@ module _ (links m frame : List ℕ) (port gid : ℕ) (gid_is : (facts_in links m
   single_found : is_group (destination frame) ≡ false → f.look_up ≡ rule_look_up (table_of m) false there
   single_found e = look_up_at ∙ ap (λ (b : Bool). rule_look_up (table_of m) b there) e
 
-  group_look_up : is_group (destination frame) ≡ true → destination_look_up m gid (destination frame) ≡ Full
+  group_look_up : is_group (destination frame) ≡ true → destination_look_up m gid (destination frame) ≡ Ok Full
   unfolding destination_look_up
   group_look_up e = rw e
 
@@ -96,32 +101,32 @@ module _ (links m frame : List ℕ) (port gid : ℕ) (gid_is : (facts_in links m
   group_chosen d answer p q r h = rw (p, q) (sym (every_bit r h))
 
   single_chosen : is_group (destination frame) ≡ false → (r : ℕ) → r < 5
-      → is_chosen (rule_look_up (table_of m) false there) r ≡ bit (chosen_mask (look_up m there)) r
+      → is_chosen (rule_look_up (table_of m) false there) r ≡ bit (chosen_mask (found_by (look_up m there))) r
   unfolding rule_look_up
   single_chosen e r h = chosen_by m there (find (table_of m) there) (empty_for (table_of m) there) (look_up_finds m there (single_whole e)) r h
 
   -- "a group address, or one not found, has all members as candidates; one found has its port"
-  pub chosen_is : (r : ℕ) → r < 5 → f.chosen r ≡ bit (chosen_mask (destination_look_up m gid (destination frame))) r
+  pub chosen_is : (r : ℕ) → r < 5 → f.chosen r ≡ bit (chosen_mask (found_by (destination_look_up m gid (destination frame)))) r
   chosen_is r h =
       ap (λ (c : ℕ → Bool). c r) (facts_chosen links m frame port)
       ∙ on (is_group (destination frame))
-      (λ e. group_chosen (destination_look_up m gid (destination frame)) f.look_up (group_look_up e) (group_found e) r h)
+      (λ e. group_chosen (found_by (destination_look_up m gid (destination frame))) f.look_up (ap found_by (group_look_up e)) (group_found e) r h)
       (λ e. rw (single_found e, single_look_up e) (single_chosen e r h))
 
   -- ---- learning
 
   module _ (long : length m ≡ 4112) where
-    pub destination_place : place_of (destination_look_up m gid (destination frame)) < 4112
+    pub destination_place : place_of (found_by (destination_look_up m gid (destination frame))) < 4112
     destination_place =
         on (is_group (destination frame))
         (λ e. rw (group_look_up e) (omega arith))
         (λ e. rw (single_look_up e) (place_inside m there))
 
-    lesson_group : is_group (destination frame) ≡ true → lesson_in m gid port frame ≡ learned_by (look_up m own) own port m
+    lesson_group : is_group (destination frame) ≡ true → lesson_in m gid port frame ≡ learned_by (found_by (look_up m own)) own port m
     unfolding lesson_in marked_by
     lesson_group e = rw (group_look_up e)
 
-    lesson_single : is_group (destination frame) ≡ false → lesson_in m gid port frame ≡ learned_by (look_up m own) own port (marked_by (look_up m there) m)
+    lesson_single : is_group (destination frame) ≡ false → lesson_in m gid port frame ≡ learned_by (found_by (look_up m own)) own port (marked_by (found_by (look_up m there)) m)
     unfolding lesson_in
     lesson_single e = rw (single_look_up e)
 
@@ -164,10 +169,13 @@ module _ (links m frame : List ℕ) (port gid : ℕ) (gid_is : (facts_in links m
           ∙ learned _ (after_single e))
 
 -- the lesson of the plan
-pub lesson_in_law : (lesson : Lesson) (port : ℕ) (m : List ℕ) (gid : ℕ) (frame : List ℕ) → lesson.learns ≡ true → lesson.source ≡ look_up m (key gid (source frame))
-    → lesson.key ≡ key gid (source frame) → lesson.destination ≡ destination_look_up m gid (destination frame) → lesson_by lesson port m ≡ (not (lesson_in m gid port frame).0, (lesson_in m gid port frame).1)
+pub lesson_in_law : (lesson : Lesson) (port : ℕ) (m : List ℕ) (gid : ℕ) (frame : List ℕ) → Ok lesson.source ≡ look_up m (key gid (source frame))
+    → lesson.key.number ≡ key gid (source frame) → Ok lesson.destination ≡ destination_look_up m gid (destination frame)
+    → lesson_by (some lesson) port m ≡ (not (lesson_in m gid port frame).0, (lesson_in m gid port frame).1)
 unfolding lesson_by learned_lesson lesson_in
-lesson_in_law lesson port m gid frame a b c d = rw (a, b, c, d) (taken (learned_by (look_up m (key gid (source frame))) (key gid (source frame)) port (marked_by (destination_look_up m gid (destination frame)) m)))
+lesson_in_law lesson port m gid frame b c d =
+    rw (c, ap found_by b, ap found_by d)
+    (taken (learned_by (found_by (look_up m (key gid (source frame)))) (key gid (source frame)) port (marked_by (found_by (destination_look_up m gid (destination frame))) m)))
   where
     taken : (p : Bool × List ℕ) → learned_lesson p ≡ (not p.0, p.1)
     taken (x, y) = refl

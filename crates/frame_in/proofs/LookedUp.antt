@@ -1,11 +1,14 @@
 -- A frame past rule 9: the look-ups, the queue and the ports' tests. Assumes nothing.
-use Prim.Native.Nat.{ℕ, ◌^◌, ◌≤◌, ◌<◌}
+use Prim.Native.Nat.{ℕ, ◌≤◌, ◌<◌}
 use mathlib.Core.Path.{◌≡◌, refl, sym, ap, ◌∙◌}
 use mathlib.Core.Bool.{Bool, true, false, not}
 use mathlib.Core.List.{List}
 use native.Mathlib.Omega.{arith}
 use lib.ListN.{length, get_or}
-use Rattle.rules.specs.Tags.{tags_of, destination, source, address_at}
+use Rattle.std.specs.Prelude.{Some as some, Ok, Err}
+use Rattle.rules.specs.Lines.{first}
+use Rattle.layout.specs.declared.damage.Damaged.{Damaged}
+use Rattle.rules.specs.Tags.{tags_of, destination, source}
 use Rattle.rules.specs.Settings.{Port, Vlan, is_learning, queue_pcp}
 use Rattle.rules.specs.Addresses.{key}
 use Rattle.rules.specs.Arguments.{bit, port_of, vlan_entry}
@@ -16,54 +19,55 @@ use Rattle.layout.specs.Places.{port_word, port_operation_word}
 use Rattle.settings.specs.Operations.{operation_in}
 use Rattle.settings.specs.Ports.{default_number}
 use Rattle.settings.specs.Switches.{is_switches_word}
-use Rattle.settings.proofs.MapLaws.{queue_small as map_queue_small}
 use Rattle.settings.proofs.RangeLaws.{vlan_range}
 use Rattle.settings.specs.Records.{states_at, port_at}
-use Rattle.settings.specs.SettingsOf.{map_at, switches_at, settings_of}
+use Rattle.settings.specs.SettingsOf.{switches_at, settings_of}
 use Rattle.addresses.specs.Numbers.{table_of}
-use Rattle.addresses.specs.Search.{look_up, damaged}
+use Rattle.addresses.specs.Search.{look_up, place_of, damaged}
 use Rattle.addresses.specs.declared.LookUp.{LookUp}
 use Rattle.addresses.proofs.LookUps.{place_inside}
 use Rattle.arrival.specs.declared.entering.Arrival.{Arrival}
 use Rattle.arrival.specs.declared.plan.Lesson.{Lesson}
-use Rattle.arrival.specs.declared.plan.Masks.{Masks}
 use Rattle.arrival.specs.declared.plan.Offer.{Offer}
-use Rattle.arrival.specs.Plans.{damaged_plan}
 use Rattle.arrival.specs.Stored.{operation_for, stored_header}
 use Rattle.arrival.specs.Candidates.{destination_look_up, chosen_mask, candidates_in, masks_of, MasksAre}
 use Rattle.settings.specs.declared.vlan.Entry.{Entry}
 use Rattle.settings.specs.Entries.{entry_is}
 use Rattle.frame_in.specs.Carried.{lesson_by}
-use Rattle.frame_in.specs.Met.{masks_in, met_tests, met_member}
+use Rattle.frame_in.specs.Met.{masks_in, met_tests, met_member, met}
 use Rattle.frame_in.specs.Call.{facts_in, lesson_in, learned_in}
-use Rattle.frame_in.specs.Judged.{Judged}
 use Rattle.frame_in.specs.Stages.{Member, Tested}
 use Rattle.settings.proofs.PortLaws.{number_back}
-use Rattle.arrival.specs.Arrivals.{barred_by}
+use Rattle.arrival.specs.Arrivals.{port_rules}
 use Rattle.arrival.proofs.Arrivals.{not_open}
 use Rattle.arrival.proofs.LinkWords.{port_is_law, queue_is, masks_in_law}
 use Rattle.frame_in.proofs.Facts.{facts_bytes, facts_default, facts_gid, facts_state, ordinary_queue, ordinary_test}
 use Rattle.frame_in.proofs.Lessons.{chosen_is, destination_place, placed_is, lesson_in_law}
-use Rattle.frame_in.proofs.Judgements.{damaged_judged}
 use Rattle.frame_in.proofs.Steps.{way_on}
 
 twice : (b : Bool) → not (not b) ≡ b
 twice true = refl
 twice false = refl
 
+-- what the look-ups found, and where
+pub record LessonAt (d g : LookUp) (k : ℕ) (lesson : Lesson) : Type 0 where
+  pub destination : lesson.destination ≡ d
+  pub source : lesson.source ≡ g
+  pub key : lesson.key.number ≡ k
+
 module _ (links addresses frame : List ℕ) (n port : ℕ) where
   module _ (arrival : Arrival) (vlan : Entry) (m : Member links addresses frame n port arrival vlan) where
     abbrev f : Facts
     f = facts_in links addresses port frame
 
-    queue_for : arrival.queue ≡ f.queue
+    queue_for : arrival.queue.number ≡ f.queue
     queue_for =
         m.arrival_is.queue
         ∙ sym (queue_is links (queue_pcp ((settings_of links).port port).default (tags_of frame)) m.arrival_is.pcp_small)
         ∙ sym (ordinary_queue links addresses frame port m.ordinary)
 
-    pub queue_small : arrival.queue ≤ 3
-    queue_small = rw m.arrival_is.queue (map_queue_small (map_at links) (queue_pcp ((settings_of links).port port).default (tags_of frame)))
+    queue_small : arrival.queue.number ≤ 3
+    queue_small = let there = arrival.queue.there in omega (arith, there)
 
     here : (settings_of links).port port ≡ port_of (port_at links port)
     here = port_is_law links port (omega (arith, m.way.lent.port_there))
@@ -72,7 +76,7 @@ module _ (links addresses frame : List ℕ) (n port : ℕ) where
     learning_at : not (bit (states_at links) port) ≡ is_learning f.state
     learning_at =
         not_open (get_or links (port_word port) 0) (states_at links) 0 port (operation_in (get_or links (port_operation_word port) 0)) (length (tags_of frame))
-        (ap (λ (p : Port). barred_by p (length (tags_of frame))) (sym here) ∙ sym m.arrival_is.barred ∙ m.not_barred)
+        (ap (λ (p : Port). first (port_rules p (length (tags_of frame)))) (sym here) ∙ sym m.arrival_is.barred ∙ m.not_barred)
         ∙ ap (λ (p : Port). is_learning p.state) (sym here)
         ∙ ap is_learning (sym (facts_state links addresses frame port))
 
@@ -90,77 +94,64 @@ module _ (links addresses frame : List ℕ) (n port : ℕ) where
     unfolding vlan_entry
     members_are r = ap (λ (v : Vlan). v.member r) m.vlan_is_law
 
-    module _ (x : ℕ) (x_is : x ≡ address_at frame 0) (d : LookUp) (d_is : d ≡ destination_look_up addresses vlan.gid x) where
-      d_at : d ≡ destination_look_up addresses vlan.gid (destination frame)
-      unfolding destination
-      d_at = d_is ∙ ap (destination_look_up addresses vlan.gid) x_is
+    pub destination_damaged : {e : Damaged} → destination_look_up addresses vlan.gid (destination frame) ≡ Err e → met links addresses port frame ≡ true
+    unfolding met_member
+    destination_damaged e = m.way.meets_is ∙ rw e
 
-      d_damaged : (b : Bool) → damaged d ≡ b → damaged (destination_look_up addresses vlan.gid (destination frame)) ≡ b
-      d_damaged b e = ap damaged (sym d_at) ∙ e
+    module _ (d : LookUp) (d_here : destination_look_up addresses vlan.gid (destination frame) ≡ Ok d) where
+      whole : damaged (destination_look_up addresses vlan.gid (destination frame)) ≡ false
+      whole = ap damaged d_here
 
-      pub destination_damaged : damaged d ≡ true → Judged links addresses frame n port damaged_plan
-      unfolding met_member
-      destination_damaged e = damaged_judged links addresses frame n port m.way.lent (m.way.meets_is ∙ rw (d_damaged true e))
+      pub destination_there : place_of d < 4112
+      destination_there = rw d_here at (destination_place links addresses frame port vlan.gid gid_is whole m.way.lent.places)
 
-      module _ (whole : damaged d ≡ false) (y : ℕ) (y_is : y ≡ address_at frame 6) (k : ℕ) (k_is : k ≡ key vlan.gid y) (g : LookUp) (g_is : g ≡ look_up addresses k) where
-        k_at : k ≡ key vlan.gid (source frame)
-        unfolding source
-        k_at = k_is ∙ ap (key vlan.gid) y_is
-
-        g_at : g ≡ look_up addresses (key vlan.gid (source frame))
-        g_at = g_is ∙ ap (look_up addresses) k_at
-
-        g_damaged : (b : Bool) → damaged g ≡ b → damaged (look_up addresses (key vlan.gid (source frame))) ≡ b
-        g_damaged b e = ap damaged (sym g_at) ∙ e
-
-        pub source_damaged : damaged g ≡ true → Judged links addresses frame n port damaged_plan
+      module _ (k : ℕ) (k_at : k ≡ key vlan.gid (source frame)) where
+        pub source_damaged : {e : Damaged} → look_up addresses k ≡ Err e → met links addresses port frame ≡ true
         unfolding met_member
-        source_damaged e = damaged_judged links addresses frame n port m.way.lent (m.way.meets_is ∙ rw (d_damaged false whole, g_damaged true e))
+        source_damaged e = m.way.meets_is ∙ rw (d_here, ap (look_up addresses) (sym k_at) ∙ e)
 
-        module _ (sound : damaged g ≡ false) where
+        module _ (g : LookUp) (g_is : look_up addresses k ≡ Ok g) where
+          g_here : look_up addresses (key vlan.gid (source frame)) ≡ Ok g
+          g_here = ap (look_up addresses) (sym k_at) ∙ g_is
+
+          sound : damaged (look_up addresses (key vlan.gid (source frame))) ≡ false
+          sound = ap damaged g_here
+
+          pub source_there : place_of g < 4112
+          source_there = rw g_here at (place_inside addresses (key vlan.gid (source frame)))
+
           module _ (switches : ℕ) (switches_are : switches ≡ switches_at links) where
-            pub switches_damaged : is_switches_word switches ≡ false → Judged links addresses frame n port damaged_plan
+            pub switches_damaged : is_switches_word switches ≡ false → met links addresses port frame ≡ true
             unfolding met_member
-            switches_damaged e =
-                damaged_judged links addresses frame n port m.way.lent
-                (m.way.meets_is ∙ rw (d_damaged false whole, g_damaged false sound, ap is_switches_word (sym switches_are) ∙ e))
+            switches_damaged e = m.way.meets_is ∙ rw (d_here, g_here, ap is_switches_word (sym switches_are) ∙ e)
 
             module _ (good : is_switches_word switches ≡ true) (c : ℕ) (c_is : c ≡ chosen_mask d) (k' : ℕ) (k'_is : k' ≡ candidates_in vlan.members c port)
-                (states : ℕ) (states_are : states ≡ states_at links) (t : Masks) (t_is : t ≡ masks_of k' states switches arrival.queue) where
-              abbrev chosen : ℕ
-              chosen = chosen_mask (destination_look_up addresses vlan.gid (destination frame))
-
-              t_at : t ≡ masks_in links addresses port frame (entry_is vlan)
+                (states : ℕ) (states_are : states ≡ states_at links) (lesson : Lesson) (lesson_at : LessonAt d g k lesson) (offer : Offer)
+                (masks_made : offer.masks ≡ masks_of k' states switches arrival.queue.number) (queue_made : offer.queue.number ≡ arrival.queue.number)
+                (header_made : offer.header ≡ record { length = length frame; default = arrival.default; operation = vlan.operation }) where
+              masks_here : offer.masks ≡ masks_in links addresses port frame (entry_is vlan)
               unfolding masks_in
-              t_at = t_is ∙ rw (k'_is, c_is, d_at, states_are, switches_are, queue_for)
+              masks_here = masks_made ∙ rw (k'_is, c_is, d_here, states_are, switches_are, queue_for)
 
-              tests_meet : met_member links addresses port frame (entry_is vlan) ≡ met_tests links addresses port frame t
+              tests_meet : met_member links addresses port frame (entry_is vlan) ≡ met_tests links addresses port frame offer.masks
               unfolding met_member
               tests_meet =
-                  rw (d_damaged false whole, g_damaged false sound, ap is_switches_word (sym switches_are) ∙ good)
-                  (ap (met_tests links addresses port frame) (sym t_at))
+                  rw (d_here, g_here, ap is_switches_word (sym switches_are) ∙ good) (ap (met_tests links addresses port frame) (sym masks_here))
 
-              masks_right : MasksAre f.test t
+              masks_right : MasksAre f.test offer.masks
               unfolding masks_in
               masks_right =
-                  rw (ordinary_test links addresses frame port m.ordinary, t_at, ← queue_for)
-                  (masks_in_law links f.vlan f.chosen port arrival.queue vlan.members chosen members_small queue_small members_are
-                  (λ r h. chosen_is links addresses frame port vlan.gid gid_is (d_damaged false whole) r h))
-
-              abbrev lesson_made : Lesson
-              lesson_made = record { learns = true; destination = d; source = g; key = k }
-
-              abbrev offer_made : Offer
-              offer_made =
-                  record { masks = t; queue = arrival.queue; header = record { length = length frame; default = arrival.default; operation = vlan.operation } }
+                  rw (ordinary_test links addresses frame port m.ordinary, masks_here, ← queue_for)
+                  (masks_in_law links f.vlan f.chosen port arrival.queue.number vlan.members _ members_small queue_small members_are
+                  (λ r h. chosen_is links addresses frame port vlan.gid gid_is whole r h))
 
               default_number_law : arrival.default ≡ default_number f.default
               default_number_law =
                   sym (number_back arrival.default) ∙ ap default_number (m.arrival_is.default ∙ sym (facts_default links addresses frame port))
 
-              header_made : offer_made.header ≡ stored_header (operation_for links f.vid) (frame_of f)
+              header_right : offer.header ≡ stored_header (operation_for links f.vid) (frame_of f)
               unfolding stored_header frame_of
-              header_made = rw (m.ordinary, facts_bytes links addresses frame port, default_number_law, m.operation_is_law)
+              header_right = header_made ∙ rw (m.ordinary, facts_bytes links addresses frame port, default_number_law, m.operation_is_law)
 
               learns_it : learns f ≡ true
               learns_it = (learns_exactly f).1 (m.ordinary, record { read = m.way.read; entered = λ _. m.entered })
@@ -171,28 +162,22 @@ module _ (links addresses frame : List ℕ) (n port : ℕ) where
 
               not_learned_law : not (lesson_in addresses vlan.gid port frame).0 ≡ is_not_learned f (table_of addresses)
               unfolding is_not_learned
-              not_learned_law =
-                  rw (learns_it, placed_is links addresses frame port vlan.gid gid_is (d_damaged false whole) m.way.lent.places (g_damaged false sound)) (twice _)
+              not_learned_law = rw (learns_it, placed_is links addresses frame port vlan.gid gid_is whole m.way.lent.places sound) (twice _)
 
-              lesson_right : lesson_by lesson_made port addresses
-                  ≡ (is_not_learned f (table_of addresses), learned_in links addresses port frame)
+              lesson_right : lesson_by (some lesson) port addresses ≡ (is_not_learned f (table_of addresses), learned_in links addresses port frame)
               lesson_right =
-                  lesson_in_law lesson_made port addresses vlan.gid frame refl g_at k_at d_at
+                  lesson_in_law lesson port addresses vlan.gid frame (rw lesson_at.source (sym g_here)) (lesson_at.key ∙ k_at) (rw lesson_at.destination (sym d_here))
                   ∙ rw (not_learned_law, sym learned_made)
 
-              pub as_tested : k < 2 ^ 52 → (o : Bool) → o ≡ bit states port → Tested links addresses frame n port (not o) lesson_made offer_made
-              as_tested small o o_is =
+              pub as_tested : (o : Bool) → o ≡ bit states port → Tested links addresses frame n port (not o) lesson offer
+              as_tested o o_is =
                   record {
                     way = way_on links addresses frame n port m.way tests_meet;
                     ordinary = m.ordinary;
                     entered = m.entered;
                     learning_is = ap not (o_is ∙ ap (λ (w : ℕ). bit w port) states_are) ∙ learning_at;
                     masks_are = masks_right;
-                    queue_is = queue_for;
-                    queue_small = queue_small;
-                    header_is = header_made;
-                    key_small = small;
-                    destination_there = rw d_at (destination_place links addresses frame port vlan.gid gid_is (d_damaged false whole) m.way.lent.places);
-                    source_there = rw g_at (place_inside addresses (key vlan.gid (source frame)));
+                    queue_is = queue_made ∙ queue_for;
+                    header_is = header_right;
                     lesson_is = lesson_right;
                   }

@@ -1,9 +1,9 @@
 -- From stage to stage of the judgement, and the outcomes of each. Assumes nothing.
-use Prim.Native.Nat.{ℕ, ◌≤◌, ◌<◌}
-use mathlib.Core.Path.{◌≡◌, refl, sym, ap, ◌∙◌}
+use Prim.Native.Nat.{ℕ, ◌≤◌}
+use mathlib.Core.Path.{◌≡◌, sym, ap, ◌∙◌}
 use mathlib.Core.Bool.{Bool, true, false, ◌&&◌, not, true≢false}
 use mathlib.Core.List.{List}
-use mathlib.Core.Option.{Option, none, some}
+use Rattle.std.specs.Prelude.{Option, None as none, Some as some}
 use native.Mathlib.Omega.{arith}
 use borrow.Author.Tests.{ltb-false}
 use lib.Dec.{eqb, ltb}
@@ -13,7 +13,7 @@ use Rattle.rules.specs.Choice.{sift}
 use Rattle.rules.specs.Lines.{first}
 use Rattle.rules.specs.Numbers.{management_port, bpdu_address}
 use Rattle.rules.specs.Tags.{destination}
-use Rattle.rules.specs.Reasons.{Reason, reason_number}
+use Rattle.rules.specs.declared.reasons.Reason.{Reason}
 use Rattle.rules.specs.Settings.{Port}
 use Rattle.rules.specs.Arguments.{OperationNumbers, port_of}
 use Rattle.rules.specs.Facts.{Facts, is_bpdu}
@@ -21,7 +21,6 @@ use Rattle.rules.specs.ReasonTable.{reading, part_number, reason_table, lines_in
 use Rattle.rules.specs.Outcomes.{frame_of, counts_tests}
 use Rattle.rules.proofs.Choice.{on}
 use Rattle.rules.proofs.Parts.{reason_reading, reason_bpdu, read_stops, counts_then, bpdu_learns_nothing}
-use Rattle.machine.specs.CountTheorems.{outcome_number}
 use Rattle.layout.specs.Places.{port_word, port_operation_word}
 use Rattle.settings.specs.Operations.{operation_in, operation_end}
 use Rattle.settings.specs.Ports.{is_vid_word, port_in, default_in, default_of, default_number}
@@ -34,32 +33,23 @@ use Rattle.settings.specs.SettingsOf.{map_at, switches_at, settings_of}
 use Rattle.arrival.specs.declared.entering.Arrival.{Arrival}
 use Rattle.arrival.specs.declared.plan.Masks.{Masks}
 use Rattle.arrival.specs.declared.plan.Offer.{Offer}
-use Rattle.arrival.specs.Plans.{no_lesson, damaged_plan, drop_plan}
+use Rattle.arrival.specs.declared.plan.Plan.TheVariants.{Drop}
+use Rattle.arrival.specs.Plans.{no_masks}
 use Rattle.arrival.specs.Stored.{operation_for, stored_header}
 use Rattle.arrival.specs.Arrivals.{ArrivalIs}
 use Rattle.arrival.specs.Candidates.{every_port, management_mask, masks_of, MasksAre}
 use Rattle.arrival.specs.Room.{met_room, plan_offered}
 use Rattle.frame_in.specs.Met.{unless_dropped, bpdu_masks, met_entering, met_frame, met_bpdu, met_port, met}
 use Rattle.frame_in.specs.Call.{facts_in}
-use Rattle.frame_in.specs.Judged.{Lent, Judged, Way}
+use Rattle.frame_in.specs.Judged.{Lent, Right, Judged, Way}
 use Rattle.frame_in.specs.Stages.{PastEarly, AsBpdu, NoBpdu, Ordinary}
 use Rattle.settings.proofs.PortLaws.{default_in_law, number_back}
 use Rattle.arrival.proofs.LinkWords.{port_is_law, handling_is, bpdu_masks_in}
 use Rattle.frame_in.proofs.Facts.{facts_bytes, facts_default, facts_bpdu, bpdu_queue_law, bpdu_test_law}
-use Rattle.frame_in.proofs.Judgements.{never_zero, damaged_judged, nothing_taught, offer_judged, drop_judged}
-
--- ---- a reason, or none
+use Rattle.frame_in.proofs.Judgements.{nothing_taught, offer_judged, unlearned_right}
 
 some_not_none : {r : Reason} → some r ≡ none → ⊥
-some_not_none e = let z : ◌≡◌ {A = ℕ} 0 1 = cc in omega arith
-
-pub on_reason : {C : Type 0} (o : Option Reason) (k : ℕ) → k ≡ outcome_number o → 0 < k → ((r : Reason) → o ≡ some r → k ≡ reason_number r → C) → C
-on_reason none k e h f = absurd (omega arith)
-on_reason (some r) k e h f = f r refl e
-
-pub no_reason : (o : Option Reason) (k : ℕ) → k ≡ outcome_number o → k ≤ 0 → o ≡ none
-no_reason none k e h = refl
-no_reason (some r) k e h = absurd (never_zero r (sym e ∙ omega arith))
+some_not_none e = cc
 
 -- ---- a frame that is past the reasons 1 to 3 has a length between
 
@@ -102,38 +92,37 @@ module _ (links addresses frame : List ℕ) (n port : ℕ) where
   early_met r e = rw e
 
   -- what the code finds is found of every frame with these bytes
-  abbrev Early : ℕ → Type 0
-  Early k = (g : Facts) → g.packet.bytes ≡ frame → k ≡ outcome_number (first (rows_of reading g))
+  abbrev Early : Option Reason → Type 0
+  Early o = (g : Facts) → g.packet.bytes ≡ frame → o ≡ first (rows_of reading g)
 
-  pub early_judged : (k : ℕ) → Lent links addresses n port → Early k → 0 < k → Judged links addresses frame n port (drop_plan k)
-  early_judged k lent e h =
-      on_reason (first (rows_of reading f)) k (e f bytes_are) h
-      (λ r o q. drop_judged links addresses frame n port lent r k q (early_met r o) (reason_reading f r o) (read_stops f r o))
+  pub early_right : (r : Reason) → Early (some r) → Right links addresses frame n port (Drop none no_masks r)
+  early_right r e =
+      let o = sym (e f bytes_are) in
+      unlearned_right links addresses frame n port r (early_met r o) (reason_reading f r o) (read_stops f r o)
 
   past_met : first (rows_of reading f) ≡ none → met links addresses port frame ≡ met_port links addresses port frame
   unfolding met unless_dropped
   past_met e = rw e
 
-  pub past_early : (k : ℕ) → Lent links addresses n port → Early k → k ≤ 0 → PastEarly links addresses frame n port
-  past_early k lent e h =
-      let o = no_reason (first (rows_of reading f)) k (e f bytes_are) h in
+  pub past_early : Lent links addresses n port → Early none → PastEarly links addresses frame n port
+  past_early lent e =
+      let o = sym (e f bytes_are) in
       let l = lengths f frame bytes_are o in
       record { way = record { lent = lent; shortest = l.shortest; longest = l.longest; meets_is = past_met o; read = o } }
 
   -- ---- the arrival port, and BPDUs
 
   module _ (p : PastEarly links addresses frame n port) (word : ℕ) (word_is : word ≡ get_or links (port_word port) 0) where
-    pub port_damaged : is_vid_word word ≡ false → Judged links addresses frame n port damaged_plan
+    pub port_damaged : is_vid_word word ≡ false → met links addresses port frame ≡ true
     unfolding met_port
     port_damaged e =
-        damaged_judged links addresses frame n port p.way.lent (p.way.meets_is ∙ rw (ap is_vid_word (sym word_is) ∙ e))
+        p.way.meets_is ∙ rw (ap is_vid_word (sym word_is) ∙ e)
 
     module _ (good : is_vid_word word ≡ true) (map : ℕ) (map_is : map ≡ map_at links) where
-      pub map_damaged : is_map_word map ≡ false → Judged links addresses frame n port damaged_plan
+      pub map_damaged : is_map_word map ≡ false → met links addresses port frame ≡ true
       unfolding met_port
       map_damaged e =
-          damaged_judged links addresses frame n port p.way.lent
-          (p.way.meets_is ∙ rw (ap is_vid_word (sym word_is) ∙ good, ap is_map_word (sym map_is) ∙ e))
+          p.way.meets_is ∙ rw (ap is_vid_word (sym word_is) ∙ good, ap is_map_word (sym map_is) ∙ e)
 
       module _ (mapped : is_map_word map ≡ true) (b : Bool) (test : b ≡ (bpdu_in map && not (eqb port management_port) && eqb (destination frame) bpdu_address)) where
         bpdu_is : f.bpdu ≡ b
@@ -165,16 +154,15 @@ module _ (links addresses frame : List ℕ) (n port : ℕ) where
               ordinary = bpdu_is ∙ e;
               word_is = word_is;
               map_is = map_is;
-              in_range = good;
             }
 
   -- ---- an ordinary frame: the states
 
   module _ (word map : ℕ) (o : NoBpdu links addresses frame n port word map) (states : ℕ) (states_are : states ≡ states_at links) where
-    pub states_damaged : is_states_word states ≡ false → Judged links addresses frame n port damaged_plan
+    pub states_damaged : is_states_word states ≡ false → met links addresses port frame ≡ true
     unfolding met_frame
     states_damaged e =
-        damaged_judged links addresses frame n port o.way.lent (o.way.meets_is ∙ rw (ap is_states_word (sym states_are) ∙ e))
+        o.way.meets_is ∙ rw (ap is_states_word (sym states_are) ∙ e)
 
     entering_meets : is_states_word states ≡ true → met_frame links addresses port frame ≡ met_entering links addresses port frame
     unfolding met_frame
@@ -195,27 +183,25 @@ module _ (links addresses frame : List ℕ) (n port : ℕ) where
   -- ---- a BPDU
 
   module _ (default : ℕ) (a : AsBpdu links addresses frame n port default) (switches : ℕ) (switches_are : switches ≡ switches_at links) where
-    pub switches_damaged : is_switches_word switches ≡ false → Judged links addresses frame n port damaged_plan
+    pub switches_damaged : is_switches_word switches ≡ false → met links addresses port frame ≡ true
     unfolding met_bpdu
     switches_damaged e =
-        damaged_judged links addresses frame n port a.way.lent (a.way.meets_is ∙ rw (ap is_switches_word (sym switches_are) ∙ e))
+        a.way.meets_is ∙ rw (ap is_switches_word (sym switches_are) ∙ e)
 
-    module _ (good : is_switches_word switches ≡ true) (m : Masks) (masks_are : m ≡ masks_of management_mask every_port switches 3) where
-      abbrev bpdu_offer : Offer
-      bpdu_offer = record { masks = m; queue = 3; header = record { length = length frame; default = default; operation = operation_end } }
-
+    module _ (good : is_switches_word switches ≡ true) (o : Offer) (masks_are : o.masks ≡ masks_of management_mask every_port switches 3)
+        (queue_is : o.queue.number ≡ 3) (header_is : o.header ≡ record { length = length frame; default = default; operation = operation_end }) where
       bpdu_default : default ≡ default_number f.default
       bpdu_default = sym (number_back default) ∙ ap default_number (a.default_is ∙ sym (facts_default links addresses frame port))
 
-      bpdu_header : bpdu_offer.header ≡ stored_header (operation_for links f.vid) (frame_of f)
+      bpdu_header : o.header ≡ stored_header (operation_for links f.vid) (frame_of f)
       unfolding stored_header frame_of
-      bpdu_header = rw (a.bpdu, bytes_are, bpdu_default)
+      bpdu_header = header_is ∙ rw (a.bpdu, bytes_are, bpdu_default)
 
-      masks_at : m ≡ bpdu_masks links
+      masks_at : o.masks ≡ bpdu_masks links
       unfolding bpdu_masks
       masks_at = masks_are ∙ ap (λ (w : ℕ). masks_of management_mask every_port w 3) switches_are
 
-      bpdu_meets : met links addresses port frame ≡ met_room n links (length frame) m.left
+      bpdu_meets : met links addresses port frame ≡ met_room n links (length frame) o.masks.left
       unfolding met_bpdu
       bpdu_meets =
           a.way.meets_is
@@ -224,18 +210,18 @@ module _ (links addresses frame : List ℕ) (n port : ℕ) where
           ∙ ap (λ (x : Masks). met_room n links (length frame) x.left) (sym masks_at))
 
       never_ordinary : {A : Type 0} → f.bpdu ≡ false → A
-      never_ordinary o = absurd (true≢false (sym a.bpdu ∙ o))
+      never_ordinary e = absurd (true≢false (sym a.bpdu ∙ e))
 
       -- it skips 4 to 11, so that its test counts
       bpdu_counts : counts_tests f ≡ true
       bpdu_counts = counts_then f (record { past = record { read = a.way.read; entered = never_ordinary }; chosen = never_ordinary })
 
-      bpdu_tests : MasksAre f.test m
+      bpdu_tests : MasksAre f.test o.masks
       unfolding bpdu_masks
       bpdu_tests = rw (bpdu_test_law links addresses frame port a.bpdu, masks_at) (bpdu_masks_in links)
 
-      pub bpdu_offered : Judged links addresses frame n port (plan_offered n links (length frame) no_lesson bpdu_offer)
+      pub bpdu_offered : Judged links addresses frame n port (plan_offered n links (length frame) none o)
       bpdu_offered =
-          offer_judged links addresses frame n port a.way.lent bpdu_counts (reason_bpdu f a.way.read a.bpdu) no_lesson bpdu_offer
-          (nothing_taught links addresses frame n port a.way.lent (bpdu_learns_nothing f a.bpdu)) bpdu_tests
-          (sym (bpdu_queue_law links addresses frame port a.bpdu)) (omega arith) bpdu_header a.way.longest bpdu_meets
+          offer_judged links addresses frame n port a.way.lent.count bpdu_counts (reason_bpdu f a.way.read a.bpdu) none o
+          (nothing_taught links addresses frame n port (bpdu_learns_nothing f a.bpdu)) bpdu_tests
+          (queue_is ∙ sym (bpdu_queue_law links addresses frame port a.bpdu)) bpdu_header a.way.longest bpdu_meets

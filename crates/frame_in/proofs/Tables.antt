@@ -3,14 +3,14 @@ use Prim.Native.Nat.{ℕ, ◌^◌, ◌≤◌, ◌<◌}
 use mathlib.Core.Path.{◌≡◌, sym, ap, ◌∙◌}
 use mathlib.Core.Bool.{Bool, true, false, ◌||◌, not, true≢false}
 use mathlib.Core.List.{List}
-use mathlib.Core.Option.{none, some}
+use Rattle.std.specs.Prelude.{None as none, Some as some, Ok, Err}
 use native.Mathlib.Omega.{arith}
 use lib.Dec.{eqb}
 use lib.ListN.{length, get_or}
 use Rattle.std.specs.Prelude.{if◌then◌else◌}
 use Rattle.rules.specs.Lines.{first}
 use Rattle.rules.specs.Tags.{Bytes, destination, source, tags_of}
-use Rattle.rules.specs.Reasons.{Reason}
+use Rattle.rules.specs.declared.reasons.Reason.{Reason}
 use Rattle.rules.specs.Settings.{Vlan}
 use Rattle.rules.specs.Addresses.{key}
 use Rattle.rules.specs.Arguments.{bit, vlan_entry}
@@ -29,7 +29,6 @@ use Rattle.settings.specs.Records.{states_at, vlan_at}
 use Rattle.settings.specs.Table.{found_vlan}
 use Rattle.settings.specs.SettingsOf.{map_at, settings_of}
 use Rattle.settings.proofs.FindLaws.{found_there, found_nowhere, on_found}
-use Rattle.settings.specs.declared.table.Found.TheVariants.{At, Nowhere, Damaged}
 use Rattle.addresses.specs.Numbers.{table_of}
 use Rattle.addresses.specs.Search.{look_up, damaged}
 use Rattle.arrival.specs.Arrivals.{port_rules}
@@ -109,15 +108,15 @@ module _ (links addresses frame : List ℕ) (port : ℕ) where
       unfolding met_entering unless_dropped
       table_met = rw not_barred at entering_met
 
-      not_damaged : found_vlan links f.vid ≡ Damaged → ⊥
+      not_damaged : found_vlan links f.vid ≡ Err (record {}) → ⊥
       unfolding met_table
       not_damaged e = true≢false (rw e at table_met)
 
-      not_nowhere : found_vlan links f.vid ≡ Nowhere → ⊥
+      not_nowhere : found_vlan links f.vid ≡ Ok none → ⊥
       unfolding settings_of
       not_nowhere e = true≢false (sym known.there ∙ facts_there links addresses frame port ∙ found_nowhere links f.vid e)
 
-      module _ (long : length addresses ≡ 4112) (there : port ≤ 4) (each : Bytes frame) (e : ℕ) (found : found_vlan links f.vid ≡ At e) where
+      module _ (long : length addresses ≡ 4112) (there : port ≤ 4) (each : Bytes frame) (e : ℕ) (found : found_vlan links f.vid ≡ Ok (some e)) where
         entry_met : met_entry links addresses port frame e ≡ false
         unfolding met_table
         entry_met = rw found at table_met

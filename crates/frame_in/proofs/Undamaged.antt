@@ -3,7 +3,7 @@ use Prim.Native.Nat.{ℕ, ◌≤◌}
 use mathlib.Core.Path.{◌≡◌, refl}
 use mathlib.Core.Bool.{Bool, true, false}
 use mathlib.Core.List.{List, [], ◌∷◌}
-use mathlib.Core.Option.{Option, none, some}
+use Rattle.std.specs.Prelude.{Option, None as none, Some as some, Result, Ok, Err}
 use native.Mathlib.Omega.{arith}
 use borrow.Author.Tests.{lt-ltb}
 use lib.Dec.{eqb}
@@ -12,7 +12,7 @@ use Rattle.rules.specs.Choice.{Each, also}
 use Rattle.rules.specs.Lines.{first}
 use Rattle.rules.specs.Tags.{Header, Tag, Bytes, is_group, destination, source, tags_of}
 use Rattle.rules.specs.TagTheorems.{IsTag}
-use Rattle.rules.specs.Reasons.{Reason}
+use Rattle.rules.specs.declared.reasons.Reason.{Reason}
 use Rattle.rules.specs.Cells.{cells}
 use Rattle.rules.specs.Operations.{header_at}
 use Rattle.rules.specs.Settings.{is_learning, queue_pcp}
@@ -33,9 +33,7 @@ use Rattle.settings.proofs.FindLaws.{found_there, found_undamaged, on_found}
 use Rattle.addresses.specs.Search.{damaged}
 use Rattle.addresses.proofs.LookUps.{undamaged}
 use Rattle.cells.specs.Free.{room_for}
-use Rattle.cells.specs.declared.free.Room.{Room}
-use Rattle.cells.specs.declared.free.Room.TheVariants.{Enough, NoRoom}
-use Rattle.cells.specs.declared.free.Room.TheVariants as Rooms
+use Rattle.layout.specs.declared.damage.Damaged.{Damaged}
 use Rattle.arrival.specs.Candidates.{destination_look_up}
 use Rattle.queues.specs.Lists.{waiting_of, waiting_in_range, all_waiting_in_range}
 use Rattle.arrival.specs.Room.{room_met, met_room}
@@ -50,10 +48,10 @@ unfolding unless_dropped
 pass_over none m e = e
 pass_over (some r) m e = refl
 
-on_room : {C : Type 0} (r : Room) → (r ≡ Rooms.Damaged → C) → (r ≡ NoRoom → C) → (r ≡ Enough → C) → C
-on_room Rooms.Damaged a b c = a refl
-on_room NoRoom a b c = b refl
-on_room Enough a b c = c refl
+on_room : {C : Type 0} (r : Result Bool Damaged) → (r ≡ Err (record {}) → C) → (r ≡ Ok false → C) → (r ≡ Ok true → C) → C
+on_room (Err d) a b c = a refl
+on_room (Ok false) a b c = b refl
+on_room (Ok true) a b c = c refl
 
 module _ (links addresses : List ℕ) (good : InRange links addresses) where
   -- ---- room

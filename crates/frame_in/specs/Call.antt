@@ -14,7 +14,7 @@ use Rattle.layout.specs.declared.answers.Answer.{Answer}
 use Rattle.layout.specs.Lengths.{cell_count, links_fit, cells_fit, addresses_fit}
 use Rattle.layout.specs.Answers.{done_with, length_line, damage_line, or_refused}
 use Rattle.addresses.specs.Numbers.{table_of}
-use Rattle.addresses.specs.Search.{look_up}
+use Rattle.addresses.specs.Search.{look_up, found_by}
 use Rattle.addresses.specs.Writes.{marked_by, learned_by}
 use Rattle.cells.specs.Chains.{follow}
 use Rattle.cells.specs.Bytes.{store_cells}
@@ -49,8 +49,8 @@ joined_for n (queues f ports) links = pushed_at n f.queue (first_free links) por
 -- "a hit marks the entry as used; the source is then learned"
 unfoldable pub lesson_in : List ℕ → ℕ → ℕ → List ℕ → Bool × List ℕ
 lesson_in addresses gid port frame =
-    learned_by (look_up addresses (key gid (source frame))) (key gid (source frame)) port
-    (marked_by (destination_look_up addresses gid (destination frame)) addresses)
+    learned_by (found_by (look_up addresses (key gid (source frame)))) (key gid (source frame)) port
+    (marked_by (found_by (destination_look_up addresses gid (destination frame))) addresses)
 
 unfoldable pub learned_in : List ℕ → List ℕ → ℕ → List ℕ → List ℕ
 learned_in links addresses port frame =

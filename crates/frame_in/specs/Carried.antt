@@ -2,24 +2,26 @@
 -- counters of queued copies, the other counters; the code may count first, since counters stand aside
 -- (`proofs/Aside.antt`).
 -- Assumes nothing: these are definitions.
-use Rattle.std.specs.Prelude.{ℕ, ◌^◌, ◌≤◌, ◌<◌, ◌≡◌, Bool, false, not, List, [], ◌∷◌, ◌++◌, eqb, length, if◌then◌else◌}
-use Rattle.rules.specs.Cells.{cells, most_cells}
-use Rattle.rules.specs.Arguments.{bit}
-use Rattle.rules.specs.Counters.{counter_number, offered, accepted, not_learned, queued, state_out, queue_out}
-use Rattle.layout.specs.Places.{link_words, cell_bytes}
+use Rattle.std.specs.Prelude.{ℕ, ◌<◌, ◌≤◌, ◌≡◌, Bool, true, false, not, List, [], ◌∷◌, ◌++◌, length, if◌then◌else◌}
+use Rattle.std.specs.Prelude.{Option, None as none, Some as some, Ok}
+use Rattle.rules.specs.Cells.{cells, longest}
+use Rattle.rules.specs.Reasons.{reason_number}
+use Rattle.rules.specs.Counters.{counter_number}
+use Rattle.rules.specs.declared.counters.Counter.{Counter}
+use Rattle.rules.specs.declared.counters.Counter.TheVariants.{Offered as offered, Reason as reason, Accepted as accepted, NotLearned as not_learned, Queued as queued, StateOut as state_out, QueueOut as queue_out}
 use Rattle.layout.specs.declared.answers.Answer.{Answer}
 use Rattle.layout.specs.Answers.{done_with}
 use Rattle.cells.specs.Chains.{follow}
 use Rattle.cells.specs.Bytes.{store_cells}
 use Rattle.cells.specs.Stored.{stored_bytes}
 use Rattle.cells.specs.Free.{first_free, room_for, taken}
-use Rattle.cells.specs.declared.free.Room.TheVariants.{Enough}
 use Rattle.queues.specs.Lists.{pushed}
-use Rattle.addresses.specs.Search.{place_of}
 use Rattle.addresses.specs.Writes.{marked_by, learned_by}
 use Rattle.arrival.specs.declared.plan.Lesson.{Lesson}
 use Rattle.arrival.specs.declared.plan.Masks.{Masks}
+use Rattle.arrival.specs.declared.plan.Offer.{Offer}
 use Rattle.arrival.specs.declared.plan.Plan.{Plan}
+use Rattle.arrival.specs.declared.plan.Plan.TheVariants.{Drop, Queue}
 use Rattle.arrival.specs.Candidates.{ports_in}
 use Rattle.layout.specs.Bits.{less}
 use Rattle.layout.specs.Counters.{bumped}
@@ -30,10 +32,6 @@ use Rattle.layout.specs.Counters.{bumped}
 unfoldable pub each_port : {A : Type 0} → (ℕ → A → A) → List ℕ → A → A
 each_port f [] m = m
 each_port f (p ∷ ps) m = each_port f ps (f p m)
-
--- at one port, if a mask has it
-unfoldable pub if_set : {A : Type 0} → (ℕ → A → A) → ℕ → ℕ → A → A
-if_set f mask p m = if bit mask p then f p m else m
 
 -- ---- counters
 
@@ -49,17 +47,10 @@ counted_falls m links =
 unfoldable pub count_if : Bool → ℕ → List ℕ → List ℕ
 count_if unlearned port links = if unlearned then bumped port (counter_number not_learned) links else links
 
--- with the counter of the outcome
-unfoldable pub counted_with : ℕ → ℕ → Bool → Masks → List ℕ → List ℕ
+-- with the counter of the outcome: "accepted", or the reason
+unfoldable pub counted_with : Counter → ℕ → Bool → Masks → List ℕ → List ℕ
 counted_with outcome port unlearned masks links =
-    bumped port outcome (counted_falls masks (count_if unlearned port (bumped port (counter_number offered) links)))
-
--- "accepted", or the reason
-unfoldable pub outcome_counter : ℕ → ℕ
-outcome_counter reason = if eqb reason 0 then counter_number accepted else reason
-
-abbrev pub counted_by : ℕ → Bool → Plan → List ℕ → List ℕ
-counted_by port unlearned plan links = counted_with (outcome_counter plan.reason) port unlearned plan.masks links
+    bumped port (counter_number outcome) (counted_falls masks (count_if unlearned port (bumped port (counter_number offered) links)))
 
 -- ---- cells and queues
 
@@ -71,23 +62,17 @@ push_at n queue first port links = pushed n port queue first links
 abbrev pub enqueue_at : ℕ → ℕ → ℕ → ℕ → List ℕ → List ℕ
 enqueue_at n queue first port links = bumped port (counter_number queued) (push_at n queue first port links)
 
-unfoldable pub joined_at : ℕ → Plan → List ℕ → List ℕ → List ℕ
-joined_at n plan frame links =
-    each_port (enqueue_at n plan.queue (first_free links)) (ports_in plan.left)
-    (taken n (cells (length frame)) plan.left links)
+unfoldable pub joined_at : ℕ → Offer → List ℕ → List ℕ → List ℕ
+joined_at n offer frame links =
+    each_port (enqueue_at n offer.queue.number (first_free links)) (ports_in offer.masks.left)
+    (taken n (cells (length frame)) offer.masks.left links)
 
-unfoldable pub joined_by : ℕ → Plan → List ℕ → List ℕ → List ℕ
-joined_by n plan frame links = if eqb plan.reason 0 then joined_at n plan frame links else links
+unfoldable pub stored_at : ℕ → Offer → List ℕ → List ℕ → List ℕ → List ℕ
+stored_at n offer memory links frame =
+    store_cells memory (follow n links (cells (length frame)) (first_free links)) (stored_bytes offer.header ++ frame)
 
-unfoldable pub stored_at : ℕ → Plan → List ℕ → List ℕ → List ℕ → List ℕ
-stored_at n plan memory links frame =
-    store_cells memory (follow n links (cells (length frame)) (first_free links)) (stored_bytes plan.header ++ frame)
-
-unfoldable pub stored_by : ℕ → Plan → List ℕ → List ℕ → List ℕ → List ℕ
-stored_by n plan memory links frame = if eqb plan.reason 0 then stored_at n plan memory links frame else memory
-
-abbrev pub join_at : ℕ → Plan → List ℕ → List ℕ → List ℕ → List ℕ × List ℕ
-join_at n plan frame memory links = (stored_at n plan memory links frame, joined_at n plan frame links)
+abbrev pub join_at : ℕ → Offer → List ℕ → List ℕ → List ℕ → List ℕ × List ℕ
+join_at n offer frame memory links = (stored_at n offer memory links frame, joined_at n offer frame links)
 
 -- ---- addresses
 
@@ -95,45 +80,37 @@ join_at n plan frame memory links = (stored_at n plan memory links frame, joined
 unfoldable pub learned_lesson : Bool × List ℕ → Bool × List ℕ
 learned_lesson (placed, memory) = (not placed, memory)
 
-unfoldable pub lesson_by : Lesson → ℕ → List ℕ → Bool × List ℕ
-lesson_by lesson port addresses =
-    if lesson.learns
-    then learned_lesson (learned_by lesson.source lesson.key port (marked_by lesson.destination addresses))
-    else (false, addresses)
+unfoldable pub lesson_by : Option Lesson → ℕ → List ℕ → Bool × List ℕ
+lesson_by none port addresses = (false, addresses)
+lesson_by (some lesson) port addresses =
+    learned_lesson (learned_by lesson.source lesson.key.number port (marked_by lesson.destination addresses))
 
 -- ---- all of it
 
 unfoldable pub carried_out : ℕ → Plan → ℕ → List ℕ → List ℕ → List ℕ → List ℕ → Answer × (List ℕ × List ℕ × List ℕ)
-carried_out n plan port frame memory links addresses = (
-  done_with plan.reason plan.left,
+carried_out n (Drop lesson masks why) port frame memory links addresses = (
+  done_with (reason_number why) 0,
   (
-    stored_by n plan memory links frame,
-    counted_by port (lesson_by plan.lesson port addresses).0 plan
-        (joined_by n plan frame links),
-    (lesson_by plan.lesson port addresses).1,
+    memory,
+    counted_with (reason why) port (lesson_by lesson port addresses).0 masks links,
+    (lesson_by lesson port addresses).1,
+  ),
+)
+carried_out n (Queue lesson offer) port frame memory links addresses = (
+  done_with 0 offer.masks.left,
+  (
+    stored_at n offer memory links frame,
+    counted_with accepted port (lesson_by lesson port addresses).0 offer.masks (joined_at n offer frame links),
+    (lesson_by lesson port addresses).1,
   ),
 )
 
--- a frame that is dropped: no cell and no queue
-unfoldable pub dropped_out : Plan → ℕ → List ℕ → List ℕ → Answer × (List ℕ × List ℕ)
-dropped_out plan port links addresses = (
-  done_with plan.reason plan.left,
-  (
-    counted_with plan.reason port (lesson_by plan.lesson port addresses).0 plan.masks links,
-    (lesson_by plan.lesson port addresses).1,
-  ),
-)
+-- what a frame that is queued needs of link memory before the first write
+pub record Room (n : ℕ) (links frame : List ℕ) (offer : Offer) : Type 0 where
+  pub long : length frame ≤ longest
+  pub left : offer.masks.left < 32
+  pub enough : room_for n (cells (length frame)) links ≡ Ok true
 
--- what a plan needs of memory before its first write
-pub record Ready (n : ℕ) (memory links frame : List ℕ) (plan : Plan) : Type 0 where
-  pub most : n ≤ most_cells
-  pub links_long : link_words n ≤ length links
-  pub cells_long : cell_bytes n ≤ length memory
-  pub reason : plan.reason < 32
-  pub key : plan.lesson.key < 2 ^ 52
-  pub destination : place_of plan.lesson.destination < 4112
-  pub source : place_of plan.lesson.source < 4112
-  pub queue : plan.queue ≤ 3
-  pub longest : plan.reason ≡ 0 → length frame ≤ 4083
-  pub left : plan.reason ≡ 0 → plan.left < 32
-  pub room : plan.reason ≡ 0 → room_for n (cells (length frame)) links ≡ Enough
+abbrev pub Ready : ℕ → List ℕ → List ℕ → Plan → Type 0
+Ready n links frame (Drop lesson masks why) = Unit {0}
+Ready n links frame (Queue lesson offer) = Room n links frame offer

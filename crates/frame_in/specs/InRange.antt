@@ -1,6 +1,6 @@
 -- Memory in which every word that a frame-in may meet is in the layout paper's range.
 -- Assumes nothing: these are definitions.
-use Rattle.std.specs.Prelude.{ℕ, ◌≤◌, ◌<◌, ◌≡◌, true, List, get_or}
+use Rattle.std.specs.Prelude.{ℕ, ◌≤◌, ◌<◌, ◌≡◌, true, List, get_or, Err}
 use Rattle.layout.specs.Places.{port_word, vlan_operation_word}
 use Rattle.layout.specs.Lengths.{cell_count}
 use Rattle.settings.specs.Operations.{is_operation_word}
@@ -13,7 +13,6 @@ use Rattle.settings.specs.Table.{vlan_count, entry_at}
 use Rattle.settings.specs.SettingsOf.{map_at, switches_at}
 use Rattle.addresses.specs.Numbers.{all_in_range}
 use Rattle.cells.specs.Free.{room_for}
-use Rattle.cells.specs.declared.free.Room.TheVariants.{Damaged}
 use Rattle.queues.specs.Lists.{waiting_of}
 
 pub record InRange (links addresses : List ℕ) : Type 0 where
@@ -26,5 +25,5 @@ pub record InRange (links addresses : List ℕ) : Type 0 where
   pub vlan_operations : (e : ℕ) → e < vlan_count links → is_operation_word (get_or links (vlan_operation_word e) 0) ≡ true
   pub places : all_in_range addresses ≡ true
   -- the free cells are as many as they are said to be
-  pub cells : (k : ℕ) → room_for (cell_count links) k links ≡ Damaged → ⊥
+  pub cells : (k : ℕ) → room_for (cell_count links) k links ≡ Err (record {}) → ⊥
   pub queues : (p : ℕ) → p < 5 → waiting_of links p < 16

@@ -1,11 +1,11 @@
 -- The layout paper, "What a call reads, for refusal 10": is a word out of its range met on a frame-in's way?
 -- Assumes nothing: these are definitions.
 use Rattle.std.specs.Prelude.{ℕ, Bool, true, false, ◌||◌, not, List, length, get_or, if◌then◌else◌}
-use Rattle.std.proofs.Math.Option.{Option, none, some}
+use Rattle.std.specs.Prelude.{Option, None as none, Some as some, Ok, Err}
 use Rattle.rules.specs.Lines.{first}
 use Rattle.rules.specs.Numbers.{bpdu_queue}
 use Rattle.rules.specs.Tags.{destination, source, tags_of}
-use Rattle.rules.specs.Reasons.{Reason}
+use Rattle.rules.specs.declared.reasons.Reason.{Reason}
 use Rattle.rules.specs.Settings.{is_learning}
 use Rattle.rules.specs.Addresses.{key}
 use Rattle.rules.specs.Arguments.{VlanNumbers, bit}
@@ -18,11 +18,9 @@ use Rattle.settings.specs.States.{is_states_word}
 use Rattle.settings.specs.Switches.{is_switches_word}
 use Rattle.settings.specs.Maps.{is_map_word}
 use Rattle.settings.specs.Records.{states_at, vlan_at}
-use Rattle.settings.specs.Table.{found_vlan}
+use Rattle.settings.specs.Table.{Found, found_vlan}
 use Rattle.settings.specs.SettingsOf.{map_at, switches_at, settings_of}
-use Rattle.settings.specs.declared.table.Found.{Found}
-use Rattle.settings.specs.declared.table.Found.TheVariants.{At, Nowhere, Damaged}
-use Rattle.addresses.specs.Search.{look_up, damaged}
+use Rattle.addresses.specs.Search.{look_up, found_by, damaged}
 use Rattle.arrival.specs.declared.plan.Masks.{Masks}
 use Rattle.arrival.specs.Arrivals.{port_rules}
 use Rattle.arrival.specs.Candidates.{every_port, management_mask, destination_look_up, chosen_mask}
@@ -38,7 +36,7 @@ unless_dropped (some r) met = false
 -- the masks of an ordinary frame, and of a BPDU: "the one candidate 4, queue 3"; only its queue switch applies
 unfoldable pub masks_in : List ℕ → List ℕ → ℕ → List ℕ → VlanNumbers → Masks
 masks_in links addresses port frame v =
-    masks_of (candidates_in v.members (chosen_mask (destination_look_up addresses v.gid (destination frame))) port)
+    masks_of (candidates_in v.members (chosen_mask (found_by (destination_look_up addresses v.gid (destination frame)))) port)
     (states_at links) (switches_at links) (facts_in links addresses port frame).queue
 
 unfoldable pub bpdu_masks : List ℕ → Masks
@@ -67,9 +65,9 @@ met_entry links addresses port frame e =
 
 -- past reason 6, also under 7: the VLANs in use and the words of the entries from 0 on to the one of the VID
 unfoldable pub met_table : List ℕ → List ℕ → ℕ → List ℕ → Found → Bool
-met_table links addresses port frame Damaged = true
-met_table links addresses port frame Nowhere = false
-met_table links addresses port frame (At e) = met_entry links addresses port frame e
+met_table links addresses port frame (Err damage) = true
+met_table links addresses port frame (Ok none) = false
+met_table links addresses port frame (Ok (some e)) = met_entry links addresses port frame e
 
 unfoldable pub met_entering : List ℕ → List ℕ → ℕ → List ℕ → Bool
 met_entering links addresses port frame =

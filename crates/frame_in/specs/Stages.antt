@@ -1,7 +1,7 @@
 -- What is known where each stage of the judgement begins: which parts of the table of reasons are past, and what the
 -- code has read so far of the frame's facts. Assumes nothing: these are definitions.
-use Rattle.std.specs.Prelude.{ℕ, ◌^◌, ◌≤◌, ◌<◌, ◌≡◌, Bool, true, false, List, length, get_or}
-use Rattle.std.proofs.Math.Option.{none}
+use Rattle.std.specs.Prelude.{ℕ, ◌<◌, ◌≡◌, Bool, true, false, List, length, get_or}
+use Rattle.std.specs.Prelude.{None as none, Some as some}
 use Rattle.rules.specs.Lines.{first}
 use Rattle.rules.specs.Tags.{tags_of}
 use Rattle.rules.specs.Settings.{is_learning}
@@ -10,7 +10,6 @@ use Rattle.rules.specs.ReasonTable.{entering, rows_of}
 use Rattle.rules.specs.Outcomes.{frame_of, is_not_learned}
 use Rattle.layout.specs.Places.{port_word, vlan_operation_word}
 use Rattle.addresses.specs.Numbers.{table_of}
-use Rattle.addresses.specs.Search.{place_of}
 use Rattle.settings.specs.Ports.{is_vid_word, default_of}
 use Rattle.settings.specs.Records.{vlan_at}
 use Rattle.settings.specs.Table.{entry_at}
@@ -44,7 +43,6 @@ module _ (links addresses frame : List ℕ) (n port : ℕ) where
     pub ordinary : (facts_in links addresses port frame).bpdu ≡ false
     pub word_is : word ≡ get_or links (port_word port) 0
     pub map_is : map ≡ map_at links
-    pub in_range : is_vid_word word ≡ true
 
   -- what the arrival port gives it
   pub record Ordinary (arrival : Arrival) : Type 0 where
@@ -72,7 +70,7 @@ module _ (links addresses frame : List ℕ) (n port : ℕ) where
     pub ordinary : (facts_in links addresses port frame).bpdu ≡ false
     pub entered : first (rows_of entering (facts_in links addresses port frame)) ≡ none
     pub arrival_is : ArrivalIs ((settings_of links).port port) (map_at links) frame arrival
-    pub not_barred : arrival.barred ≡ 0
+    pub not_barred : arrival.barred ≡ none
     pub vlan_is_law : (facts_in links addresses port frame).vlan ≡ vlan_entry (entry_is vlan)
     pub operation_is_law : vlan.operation ≡ operation_for links (facts_in links addresses port frame).vid
     pub in_range : vlan_in_range (entry_is vlan) ≡ true
@@ -84,13 +82,9 @@ module _ (links addresses frame : List ℕ) (n port : ℕ) where
     pub entered : first (rows_of entering (facts_in links addresses port frame)) ≡ none
     pub learning_is : learning ≡ is_learning (facts_in links addresses port frame).state
     pub masks_are : MasksAre (facts_in links addresses port frame).test offer.masks
-    pub queue_is : offer.queue ≡ (facts_in links addresses port frame).queue
-    pub queue_small : offer.queue ≤ 3
+    pub queue_is : offer.queue.number ≡ (facts_in links addresses port frame).queue
     pub header_is : offer.header
         ≡ stored_header (operation_for links (facts_in links addresses port frame).vid)
         (frame_of (facts_in links addresses port frame))
-    pub key_small : lesson.key < 2 ^ 52
-    pub destination_there : place_of lesson.destination < 4112
-    pub source_there : place_of lesson.source < 4112
-    pub lesson_is : lesson_by lesson port addresses
+    pub lesson_is : lesson_by (some lesson) port addresses
         ≡ (is_not_learned (facts_in links addresses port frame) (table_of addresses), learned_in links addresses port frame)

@@ -1,47 +1,39 @@
 // The writes of a frame-in: addresses, then counters, then cells and queues.
-ghost use Rattle.std.specs.Prelude.{◌≡◌, ◌&&◌, ◌^◌, ◌≤◌, ◌<◌, eqb, length};
-ghost use Rattle.rules.specs.Numbers.{place_count};
-ghost use Rattle.rules.specs.Cells.{most_cells, longest};
-ghost use Rattle.rules.specs.Cells as rules;
-ghost use Rattle.rules.specs.Counters.{counter_number, accepted};
+ghost use Rattle.std.specs.Prelude.{◌≡◌, ◌&&◌, ◌≤◌, ◌<◌, eqb, length, Ok};
+ghost use Rattle.rules.specs.Counters.{counter_number};
 ghost use Rattle.layout.specs.Places.{fixed_words, link_words, cell_bytes};
-ghost use Rattle.cells.specs.Free.{room_for};
-ghost use Rattle.addresses.specs.Search.{place_of};
+ghost use Rattle.layout.specs.Answers.{done_with};
 ghost use Rattle.arrival.specs.Candidates.{ports_in};
-ghost use Rattle.frame_in.specs.Carried.{each_port, if_set, bump_at, counted_falls, count_if, counted_with};
-ghost use Rattle.frame_in.specs.Carried.{enqueue_at, lesson_by, join_at, carried_out, dropped_out, Ready};
+ghost use Rattle.frame_in.specs.Carried.{each_port, bump_at, counted_falls, count_if, counted_with};
+ghost use Rattle.frame_in.specs.Carried.{enqueue_at, lesson_by, join_at, carried_out, Room, Ready};
 
 use addresses::{learn, mark};
-use arrival::plan::{Lesson, Masks, Plan};
+use arrival::plan::{Lesson, Masks, Offer, Plan};
 use arrival::room::cells_of;
 use cells::bytes::store;
-use cells::free::{Room, take_cells};
-use layout::answers::Answer;
+use cells::free::take_cells;
+use layout::answers::Done;
 use layout::bits::{bit, less};
+use layout::cell_count::CellCount;
 use layout::counter::bump;
-use layout::counters::{ACCEPTED, NOT_LEARNED, OFFERED, QUEUE_OUT, QUEUED, STATE_OUT};
+use layout::numbers::PLACES;
+use layout::ports::{Port, Queue};
+use rules::counters::Counter;
 
-fn count_at(links: &mut [u32], mask: u32, port: u32, number: usize)
-    requires { (fixed_words ≤ length links.old) × (port ≤ 4) × (number < 32) }
-    ensures { links.new ≡ if_set (bump_at number) mask port links.old }
-{
-    if bit(mask, port) {
-        bump(links, port as usize, number);
-    }
-}
-
-// A counter of each port of a mask.
-fn count_each(links: &mut [u32], mask: u32, number: usize)
-    requires { (fixed_words ≤ length links.old) × (number < 32) }
-    ensures { links.new ≡ each_port (bump_at number) (ports_in mask) links.old }
+// A counter of each port of a mask. Seldom is there one.
+#[inline(always)]
+#[tactic(auto, using(crate::proofs::Each::each_starts, crate::proofs::Each::each_ends, crate::proofs::Each::each_none))]
+fn count_each(links: &mut [u32], mask: u32, counter: Counter)
+    requires { fixed_words ≤ length links.old }
+    ensures { links.new ≡ each_port (bump_at (counter_number counter)) (ports_in mask) links.old }
 {
     if mask == 0 {
         return;
     }
-    let mut port: u32 = 0;
-    while port < 5 {
-        count_at(links, mask, port, number);
-        port += 1;
+    for number in 0..5 {
+        if bit(mask, number) {
+            bump(links, Port { number }, counter);
+        }
     }
 }
 
@@ -53,6 +45,7 @@ fn all_stay(masks: Masks) -> bool
 }
 
 // A candidate that falls out is counted at its port. Seldom does one.
+#[inline(always)]
 fn count_falls(links: &mut [u32], masks: Masks)
     requires { fixed_words ≤ length links.old }
     ensures { links.new ≡ counted_falls masks links.old }
@@ -60,154 +53,119 @@ fn count_falls(links: &mut [u32], masks: Masks)
     if all_stay(masks) {
         return;
     }
-    count_each(links, less(masks.candidates, masks.passing), STATE_OUT);
-    count_each(links, less(masks.passing, masks.left), QUEUE_OUT);
+    count_each(
+        links,
+        less(masks.candidates, masks.passing),
+        Counter::StateOut,
+    );
+    count_each(links, less(masks.passing, masks.left), Counter::QueueOut);
 }
 
-// A copy is queued, and counted at its port.
-fn push_if(links: &mut [u32], n: usize, left: u32, port: u32, queue: u32, first: u32)
-    requires { (link_words n ≤ length links.old) × (1 ≤ n) × (port ≤ 4) × (queue ≤ 3) }
-    ensures { links.new ≡ if_set (enqueue_at n queue first) left port links.old }
-{
-    if bit(left, port) {
-        queues::push(links, n, port as usize, queue, first);
-        bump(links, port as usize, QUEUED);
-    }
-}
-
-fn push_all(links: &mut [u32], n: usize, left: u32, queue: u32, first: u32)
-    requires { (link_words n ≤ length links.old) × (1 ≤ n) × (queue ≤ 3) }
+// A copy is queued at each port left, and counted there.
+#[inline(always)]
+#[tactic(auto, using(crate::proofs::Each::each_starts, crate::proofs::Each::each_ends))]
+fn push_all(links: &mut [u32], n: CellCount, left: u32, queue: Queue, first: u32)
+    requires { link_words n.number ≤ length links.old }
     ensures { links.new
-        ≡ each_port (enqueue_at n queue first) (ports_in left) links.old }
+        ≡ each_port (enqueue_at n.number queue.number first) (ports_in left) links.old }
 {
-    let mut port: u32 = 0;
-    while port < 5 {
-        push_if(links, n, left, port, queue, first);
-        port += 1;
+    for number in 0..5 {
+        if bit(left, number) {
+            let port = Port { number };
+            queues::push(links, n, port, queue, first);
+            bump(links, port, Counter::Queued);
+        }
     }
 }
 
 // The frame into its cells, and its first cell into the queue of each port left.
-fn join(cells: &mut [u8], links: &mut [u32], n: usize, frame: &[u8], plan: Plan)
-    requires n_in_bounds { (link_words n ≤ length links.old) × (cell_bytes n ≤ length cells.old) × (n ≤ most_cells)
-        × (length frame.now ≤ longest) × (plan.queue ≤ 3) × (plan.left < 32) }
-    requires links_value { room_for n (rules.cells (length frame.now)) links.old ≡ Room.Enough }
-    ensures { (cells.new, links.new)
-        ≡ join_at n plan frame.now cells.old links.old }
+#[inline(always)]
+fn join(cells: &mut [u8], links: &mut [u32], n: CellCount, frame: &[u8], offer: Offer)
+    requires lengths { (link_words n.number ≤ length links.old) × (cell_bytes n.number ≤ length cells.old) }
+    requires room { Room n.number links.old frame.now offer }
+    ensures { (cells.new, links.new) ≡ join_at n.number offer frame.now cells.old links.old }
 {
+    let left = offer.masks.left;
     let k = cells_of(frame.len());
     let first = links[layout::FIRST_FREE];
-    let header = plan.header;
-    let after = store(cells, links, n, first, header, frame);
-    take_cells(links, n, k, plan.left, after);
-    push_all(links, n, plan.left, plan.queue, first);
+    let after = store(cells, links, n, first, offer.header, frame);
+    take_cells(links, n, k, left, after);
+    push_all(links, n, left, offer.queue, first);
 }
 
 // Marks what the destination's look-up found, and learns the source. Answers whether "not learned" counts.
-fn take_lesson(addresses: &mut [u64], port: u32, lesson: Lesson) -> bool
-    requires addresses_len { (length addresses.old ≡ place_count) × (port ≤ 4) × (lesson.key < 2 ^ 52) }
-    requires destination_bound { (place_of lesson.destination < place_count) × (place_of lesson.source < place_count) }
-    ensures { (result, addresses.new) ≡ lesson_by lesson port addresses.old }
+#[inline(always)]
+#[tactic(auto, unfolding(crate::specs::Carried::lesson_by, crate::specs::Carried::learned_lesson))]
+fn take_lesson(addresses: &mut [u64; PLACES], port: Port, lesson: Option<Lesson>) -> bool
+    ensures { (result, addresses.new) ≡ lesson_by lesson port.number addresses.old }
 {
-    if lesson.learns {
-        let destination = lesson.destination;
-        let source = lesson.source;
-        mark(addresses, destination);
-        return !learn(addresses, source, lesson.key, port);
-    }
-    false
+    let Some(lesson) = lesson else {
+        return false;
+    };
+    mark(addresses, lesson.destination);
+    !learn(addresses, lesson.source, lesson.key, port)
 }
 
-fn count_if(links: &mut [u32], port: usize, unlearned: bool)
-    requires { (fixed_words ≤ length links.old) × (port < 5) }
-    ensures { links.new ≡ count_if unlearned port links.old }
+#[tactic(auto, unfolding(crate::specs::Carried::count_if))]
+fn count_if(links: &mut [u32], port: Port, unlearned: bool)
+    requires { fixed_words ≤ length links.old }
+    ensures { links.new ≡ count_if unlearned port.number links.old }
 {
     if unlearned {
-        bump(links, port, NOT_LEARNED);
+        bump(links, port, Counter::NotLearned);
     }
 }
 
-// All counters of a frame that is queued but those of its copies.
-fn count_accepted(links: &mut [u32], port: usize, unlearned: bool, masks: Masks)
-    requires { (fixed_words ≤ length links.old) × (port < 5) }
-    ensures { links.new
-        ≡ counted_with (counter_number accepted) port unlearned masks links.old }
+// All counters of a frame but those of its copies: on each way of a frame, without a call.
+#[inline(always)]
+#[tactic(auto, unfolding(crate::specs::Carried::counted_with))]
+fn count(links: &mut [u32], port: Port, unlearned: bool, masks: Masks, outcome: Counter)
+    requires { fixed_words ≤ length links.old }
+    ensures { links.new ≡ counted_with outcome port.number unlearned masks links.old }
 {
-    bump(links, port, OFFERED);
+    bump(links, port, Counter::Offered);
     count_if(links, port, unlearned);
     count_falls(links, masks);
-    bump(links, port, ACCEPTED);
+    bump(links, port, outcome);
 }
 
-// All counters of a frame that is dropped.
-fn count_dropped(links: &mut [u32], port: usize, unlearned: bool, masks: Masks, reason: u32)
-    requires { (fixed_words ≤ length links.old) × (port < 5) × (reason < 32) }
-    ensures { links.new ≡ counted_with reason port unlearned masks links.old }
-{
-    bump(links, port, OFFERED);
-    count_if(links, port, unlearned);
-    count_each(links, less(masks.candidates, masks.passing), STATE_OUT);
-    count_each(links, less(masks.passing, masks.left), QUEUE_OUT);
-    bump(links, port, reason as usize);
-}
-
-// Queued. Cells and queues come last, so that the compiler has little to keep while the frame is stored.
-fn accept(
-    cells: &mut [u8],
-    links: &mut [u32],
-    addresses: &mut [u64],
-    n: usize,
-    port: u32,
-    frame: &[u8],
-    plan: Plan,
-) -> Answer
-    requires ready { (Ready n cells.old links.old frame.now plan) × (length addresses.old ≡ place_count)
-        × (port ≤ 4) }
-    requires reason_value { plan.reason ≡ 0 }
-    ensures { (result, (cells.new, links.new, addresses.new))
-        ≡ carried_out n plan port frame.now cells.old links.old addresses.old }
-{
-    let p = port as usize;
-    let lesson = plan.lesson;
-    let masks = plan.masks;
-    let unlearned = take_lesson(addresses, port, lesson);
-    count_accepted(links, p, unlearned, masks);
-    join(cells, links, n, frame, plan);
-    layout::answers::done(0, plan.left)
-}
-
-fn drop(links: &mut [u32], addresses: &mut [u64], port: u32, plan: Plan) -> Answer
-    requires fixed_words_in_bounds { (fixed_words ≤ length links.old) × (length addresses.old ≡ place_count) × (port ≤ 4)
-        × (plan.reason < 32) }
-    requires key_bound { (plan.lesson.key < 2 ^ 52) × (place_of plan.lesson.destination < place_count)
-        × (place_of plan.lesson.source < place_count) }
-    ensures { (result, (links.new, addresses.new))
-        ≡ dropped_out plan port links.old addresses.old }
-{
-    let p = port as usize;
-    let lesson = plan.lesson;
-    let masks = plan.masks;
-    let unlearned = take_lesson(addresses, port, lesson);
-    count_dropped(links, p, unlearned, masks, plan.reason);
-    layout::answers::done(plan.reason, plan.left)
-}
-
+// Cells and queues come last, so that the compiler has little to keep while a frame is stored.
+#[inline(always)]
 pub fn carry_out(
     cells: &mut [u8],
     links: &mut [u32],
-    addresses: &mut [u64],
-    n: usize,
-    port: u32,
+    addresses: &mut [u64; PLACES],
+    n: CellCount,
+    port: Port,
     frame: &[u8],
     plan: Plan,
-) -> Answer
-    requires { (Ready n cells.old links.old frame.now plan) × (length addresses.old ≡ place_count)
-        × (port ≤ 4) }
-    ensures { (result, (cells.new, links.new, addresses.new))
-        ≡ carried_out n plan port frame.now cells.old links.old addresses.old }
+) -> Done
+    requires lengths { (link_words n.number ≤ length links.old) × (cell_bytes n.number ≤ length cells.old) }
+    requires ready { Ready n.number links.old frame.now plan }
+    ensures { (done_with result.x result.y, (cells.new, links.new, addresses.new))
+        ≡ carried_out n.number plan port.number frame.now cells.old links.old addresses.old }
 {
-    if plan.reason == 0 {
-        return accept(cells, links, addresses, n, port, frame, plan);
+    match plan {
+        Plan::Queue { lesson, offer } => {
+            let unlearned = take_lesson(addresses, port, lesson);
+            count(links, port, unlearned, offer.masks, Counter::Accepted);
+            join(cells, links, n, frame, offer);
+            Done {
+                x: 0,
+                y: offer.masks.left,
+            }
+        }
+        Plan::Drop {
+            lesson,
+            masks,
+            reason,
+        } => {
+            let unlearned = take_lesson(addresses, port, lesson);
+            count(links, port, unlearned, masks, Counter::Reason(reason));
+            Done {
+                x: u32::from(reason),
+                y: 0,
+            }
+        }
     }
-    drop(links, addresses, port, plan)
 }

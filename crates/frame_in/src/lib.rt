@@ -4,48 +4,44 @@
 mod judge; // the rules in their order
 mod carry; // the writes
 
-ghost use Rattle.std.specs.Prelude.{◌≡◌, ◌&&◌};
-ghost use Rattle.layout.specs.Lengths.{links_fit, cells_fit, addresses_fit};
+ghost use Rattle.std.specs.Prelude.{◌≡◌};
+ghost use Rattle.layout.specs.Answers.{answered};
 ghost use Rattle.frame_in.specs.Call.{frame_in_call};
 
-use layout::answers::Answer;
-use layout::numbers::LAST_PORT;
-use layout::refusals::{MEMORY_DAMAGED, MEMORY_LENGTH, PORT_ABOVE_FOUR};
-
-// Have the memories the lengths that the fresh call got?
-fn fits(cells: &[u8], links: &[u32], addresses: &[u64]) -> bool
-    ensures { result
-        ≡ (links_fit links.now
-        && (cells_fit cells.now links.now && addresses_fit addresses.now)) }
-{
-    if layout::lengths::links_fit(links) {
-        return layout::lengths::cells_fit(cells, links) & layout::lengths::addresses_fit(addresses);
-    }
-    false
-}
+use judge::Arriving;
+use layout::answers::{Done, must};
+use layout::cell_count::cell_count;
+use layout::lengths::{cells_fit, links_fit, places_mut};
+use layout::ports::Port;
+use rules::refusals::Refusal;
 
 // A frame arrives at a port. x: 0 if it is queued, else the reason from 1 to 13; y: the mask of the ports it is queued
 // at.
+#[tactic(auto, unfolding(crate::specs::Call::frame_in_call, rules::specs::Refusals::frame_in_lines, rules::specs::Lines::first))]
 pub fn frame_in(
     cells: &mut [u8],
     links: &mut [u32],
     addresses: &mut [u64],
     port: u32,
     frame: &[u8],
-) -> Answer
-    ensures { (result, (cells.new, links.new, addresses.new))
+) -> Result<Done, Refusal>
+    ensures { (answered result, (cells.new, links.new, addresses.new))
         ≡ frame_in_call cells.old links.old addresses.old port frame.now }
 {
-    if fits(cells, links, addresses) {
-        if LAST_PORT < port {
-            return layout::answers::refused(PORT_ABOVE_FOUR);
-        }
-        let n = links[layout::CELL_COUNT] as usize;
-        let plan = judge::judge(links, addresses, n, port, frame);
-        if plan.damaged {
-            return layout::answers::refused(MEMORY_DAMAGED);
-        }
-        return carry::carry_out(cells, links, addresses, n, port, frame, plan);
-    }
-    layout::answers::refused(MEMORY_LENGTH)
+    must(
+        links_fit(links) && cells_fit(cells, links),
+        Refusal::MemoryLength,
+    )?;
+    let addresses = places_mut(addresses).ok_or(Refusal::MemoryLength)?;
+    let port = Port::try_from(port)?;
+    let n = cell_count(links);
+    let arriving = Arriving {
+        links,
+        addresses,
+        n,
+        port,
+        frame,
+    };
+    let plan = arriving.judge()?;
+    Ok(carry::carry_out(cells, links, addresses, n, port, frame, plan))
 }

@@ -1,4 +1,2 @@
 pub mod Runs
-pub mod Ends
 pub mod WordLaws
-pub mod FreshRanges

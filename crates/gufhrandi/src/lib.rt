@@ -31,7 +31,7 @@ pub fn gufhrandi_fresh(cells: &[u8], links: &mut [u32], addresses: &mut [u64]) -
     ensures { (result, (cells.now, links.new, addresses.new))
         ≡ fresh_call cells.now links.old addresses.old }
 {
-    fresh_call::fresh(cells, links, addresses)
+    Answer::from(fresh_call::fresh(cells, links, addresses))
 }
 
 pub fn gufhrandi_frame_in(
@@ -44,26 +44,26 @@ pub fn gufhrandi_frame_in(
     ensures { (result, (cells.new, links.new, addresses.new))
         ≡ frame_in_call cells.old links.old addresses.old port frame.now }
 {
-    frame_in::frame_in(cells, links, addresses, port, frame)
+    Answer::from(frame_in::frame_in(cells, links, addresses, port, frame))
 }
 
 pub fn gufhrandi_take(cells: &[u8], links: &mut [u32], port: u32, out: &mut [u8]) -> Answer
     ensures { (result, (links.new, out.new))
         ≡ take_call cells.now links.old port out.old }
 {
-    take_out::take_into(cells, links, port, out)
+    Answer::from(take_out::take_into(cells, links, port, out))
 }
 
 pub fn gufhrandi_age(addresses: &mut [u64]) -> Answer
     ensures { (result, addresses.new) ≡ age_call addresses.old }
 {
-    address_calls::age(addresses)
+    Answer::from(address_calls::age(addresses))
 }
 
 pub fn gufhrandi_counter(links: &[u32], port: u32, number: u32) -> Answer
     ensures { (result, links.now) ≡ counter_call links.now port number }
 {
-    setting_calls::counter::counter(links, port, number)
+    Answer::from(setting_calls::counter::counter(links, port, number))
 }
 
 pub fn gufhrandi_port(
@@ -103,27 +103,24 @@ pub fn gufhrandi_port(
           };
         }) }
 {
-    setting_calls::port::set_port(
-        links,
-        port,
-        PortSettings {
-            state,
-            assignment,
-            vid,
-            pcp,
-            dei,
-            flags,
-            operation: OperationSettings {
-                kind,
-                tag_type,
-                vid_source,
-                pcp_source,
-                vid: op_vid,
-                pcp: op_pcp,
-                dei: op_dei,
-            },
+    let settings = PortSettings {
+        state,
+        assignment,
+        vid,
+        pcp,
+        dei,
+        flags,
+        operation: OperationSettings {
+            kind,
+            tag_type,
+            vid_source,
+            pcp_source,
+            vid: op_vid,
+            pcp: op_pcp,
+            dei: op_dei,
         },
-    )
+    };
+    Answer::from(setting_calls::port::set_port(links, port, settings))
 }
 
 pub fn gufhrandi_vlan(
@@ -155,63 +152,61 @@ pub fn gufhrandi_vlan(
           };
         }) }
 {
-    setting_calls::vlan::set_vlan(
-        links,
-        VlanSettings {
-            vid,
-            members,
-            gid,
-            operation: OperationSettings {
-                kind,
-                tag_type,
-                vid_source,
-                pcp_source,
-                vid: op_vid,
-                pcp: op_pcp,
-                dei: op_dei,
-            },
+    let settings = VlanSettings {
+        vid,
+        members,
+        gid,
+        operation: OperationSettings {
+            kind,
+            tag_type,
+            vid_source,
+            pcp_source,
+            vid: op_vid,
+            pcp: op_pcp,
+            dei: op_dei,
         },
-    )
+    };
+    Answer::from(setting_calls::vlan::set_vlan(links, settings))
 }
 
 pub fn gufhrandi_clear_vlan(links: &mut [u32], vid: u32) -> Answer
     ensures { (result, links.new) ≡ clear_vlan_call links.old vid }
 {
-    setting_calls::vlan::clear_vlan(links, vid)
+    Answer::from(setting_calls::vlan::clear_vlan(links, vid))
 }
 
 pub fn gufhrandi_set_static(addresses: &mut [u64], gid: u32, port: u32, address: u64) -> Answer
     ensures { (result, addresses.new) ≡ static_call addresses.old gid port address }
 {
-    address_calls::set_static(addresses, gid, port, address)
+    Answer::from(address_calls::set_static(addresses, gid, port, address))
 }
 
 pub fn gufhrandi_remove(addresses: &mut [u64], gid: u32, address: u64) -> Answer
     ensures { (result, addresses.new) ≡ remove_call addresses.old gid address }
 {
-    address_calls::remove(addresses, gid, address)
+    Answer::from(address_calls::remove(addresses, gid, address))
 }
 
 pub fn gufhrandi_map(links: &mut [u32], pcp: u32, queue: u32) -> Answer
     ensures { (result, links.new) ≡ map_call links.old pcp queue }
 {
-    setting_calls::queue::map(links, pcp, queue)
+    Answer::from(setting_calls::queue::map(links, pcp, queue))
 }
 
 pub fn gufhrandi_queue_switch(links: &mut [u32], port: u32, queue: u32, on: u32) -> Answer
     ensures { (result, links.new) ≡ queue_switch_call links.old port queue on }
 {
-    setting_calls::queue::queue_switch(links, port, queue, on)
+    Answer::from(setting_calls::queue::queue_switch(links, port, queue, on))
 }
 
 pub fn gufhrandi_drain(links: &mut [u32], port: u32) -> Answer
     ensures { (result, links.new) ≡ drain_call links.old port }
 {
-    take_out::drain(links, port)
+    Answer::from(take_out::drain(links, port))
 }
 
 pub fn gufhrandi_bpdu(links: &mut [u32], on: u32) -> Answer
     ensures { (result, links.new) ≡ bpdu_call links.old on }
 {
-    setting_calls::bpdu::bpdu(links, on)
+    Answer::from(setting_calls::bpdu::bpdu(links, on))
 }

@@ -63,6 +63,7 @@ fn set_vlan(links: &mut [u32], new: VlanSettings) -> Answer
     )
 }
 
+#[tactic(auto, unfolding(crate::specs::Runs::run, crate::specs::Asked::link_asked, crate::specs::Asked::link_run))]
 fn on_links(links: &mut [u32], call: LinkCall) -> Answer
     ensures { (result, links.new) ≡ link_run links.old call }
 {
@@ -80,6 +81,7 @@ fn on_links(links: &mut [u32], call: LinkCall) -> Answer
     }
 }
 
+#[tactic(auto, unfolding(crate::specs::Runs::run, crate::specs::Asked::address_asked, crate::specs::Asked::address_run))]
 fn on_addresses(addresses: &mut [u64], call: AddressCall) -> Answer
     ensures { (result, addresses.new) ≡ address_run addresses.old call }
 {
@@ -93,6 +95,7 @@ fn on_addresses(addresses: &mut [u64], call: AddressCall) -> Answer
 }
 
 // `frame` is asked by a frame-in alone, and `buffer` lent to a take alone.
+#[tactic(auto, using(crate::proofs::Running::run_addresses, crate::proofs::Running::run_links), unfolding(crate::specs::Runs::run, crate::specs::Asked::asked))]
 pub fn perform(
     cells: &mut [u8],
     links: &mut [u32],

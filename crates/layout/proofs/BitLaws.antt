@@ -1,160 +1,79 @@
 -- The bits of a number: of joined numbers, of a power of two, behind a shift; numbers with the same bits are equal; one bit written.
 -- Assumes nothing.
-use Rattle.std.proofs.Common.{◌≡◌, ℕ, zero, suc, ◌+◌, ◌-◌, ◌*◌, ◌/◌, ◌%◌, ◌^◌, ◌<◌, Bool, true, false, not, ◌&&◌, ◌||◌, eqb, sym, refl, ap, ◌∙◌, one-mul, div-one, add-one, arith, pow_pos, pow-add, shr-shr, eq-eqb, ne_eqb, eqb-true}
-use native.Mathlib.Nat.{div-eq_of_lt, div_self}
+use Rattle.std.proofs.Common.{◌≡◌, ℕ, zero, suc, ◌+◌, ◌/◌, ◌%◌, ◌^◌, ◌<◌, Bool, true, false, not, ◌&&◌, ◌||◌, eqb, min, max, sym, refl, ap, ◌∙◌, arith, shr-shr, eq-eqb, ne_eqb, eqb-true}
+use Rattle.std.specs.Int.{bit_at}
+use Rattle.std.proofs.lemmas.Nat.Bits.{bit_at-lt, bit_at-zero, bit_at_and, bit_at_or, bit_at_xor, bit_at-pow_same, bit_at-pow_other, same_from_bits, same_from_bits_below}
 use native.Mathlib.Decide.{dec_lt}
-use lib.Pow.{pow-lt, shl-shr}
-use lib.Bits.{bit_and, bit_or, bit_xor, and_shr, and_mod, or_shr, or_mod, xor_shr, xor_mod, shifted_even, or_lt, and_lt, xor_lt}
+use lib.Pow.{pow-lt}
+use lib.Bits.{bit_and, bit_or, and_lt, or_lt, xor_lt}
 use borrow.Author.Tests.{eqb-false}
 use Rattle.rules.proofs.Choice.{on, and_left, and_right}
 use Rattle.std.specs.Prelude.{if◌then◌else◌}
 use Rattle.rules.specs.Arguments.{bit}
 use Rattle.layout.specs.Bits.{less, with_bit}
 
--- ---- one digit
-
-and_digit : (a b : ℕ) → a < 2 → b < 2 → eqb (bit_and a b) 1 ≡ (eqb a 1 && eqb b 1)
-and_digit zero zero h k = refl
-and_digit zero (suc zero) h k = refl
-and_digit (suc zero) zero h k = refl
-and_digit (suc zero) (suc zero) h k = refl
-and_digit zero (suc (suc b)) h k = absurd (omega (arith, k))
-and_digit (suc zero) (suc (suc b)) h k = absurd (omega (arith, k))
-and_digit (suc (suc a)) b h k = absurd (omega (arith, h))
-
-or_digit : (a b : ℕ) → a < 2 → b < 2 → eqb (bit_or a b) 1 ≡ (eqb a 1 || eqb b 1)
-or_digit zero zero h k = refl
-or_digit zero (suc zero) h k = refl
-or_digit (suc zero) zero h k = refl
-or_digit (suc zero) (suc zero) h k = refl
-or_digit zero (suc (suc b)) h k = absurd (omega (arith, k))
-or_digit (suc zero) (suc (suc b)) h k = absurd (omega (arith, k))
-or_digit (suc (suc a)) b h k = absurd (omega (arith, h))
-
-unfoldable pub differs : Bool → Bool → Bool
-differs true b = not b
-differs false b = b
-
-xor_digit : (a b : ℕ) → a < 2 → b < 2 → eqb (bit_xor a b) 1 ≡ differs (eqb a 1) (eqb b 1)
-unfolding differs
-xor_digit zero zero h k = refl
-xor_digit zero (suc zero) h k = refl
-xor_digit (suc zero) zero h k = refl
-xor_digit (suc zero) (suc zero) h k = refl
-xor_digit zero (suc (suc b)) h k = absurd (omega (arith, k))
-xor_digit (suc zero) (suc (suc b)) h k = absurd (omega (arith, k))
-xor_digit (suc (suc a)) b h k = absurd (omega (arith, h))
-
 -- ---- each bit of two numbers joined
+
+-- what holds of two digits holds of the two bits at a place
+digits : (P : ℕ → ℕ → Type 0) → P 0 0 → P 0 1 → P 1 0 → P 1 1 → (x y : ℕ) → x < 2 → y < 2 → P x y
+digits P a b c d zero zero h k = a
+digits P a b c d zero (suc zero) h k = b
+digits P a b c d (suc zero) zero h k = c
+digits P a b c d (suc zero) (suc zero) h k = d
+digits P a b c d zero (suc (suc y)) h k = absurd (omega (arith, k))
+digits P a b c d (suc zero) (suc (suc y)) h k = absurd (omega (arith, k))
+digits P a b c d (suc (suc x)) y h k = absurd (omega (arith, h))
+
+at_place : (P : ℕ → ℕ → Type 0) → P 0 0 → P 0 1 → P 1 0 → P 1 1 → (a b i : ℕ) → P (bit_at a i) (bit_at b i)
+at_place P p q r s a b i = digits P p q r s (bit_at a i) (bit_at b i) (bit_at-lt a i) (bit_at-lt b i)
 
 module _ (a b i : ℕ) where
   pub bit_and_law : bit (bit_and a b) i ≡ (bit a i && bit b i)
   unfolding bit
   bit_and_law =
-      ap (λ (x : ℕ). eqb (x % 2) 1) (and_shr a b i)
-      ∙ ap (λ (x : ℕ). eqb x 1) (and_mod (a / 2 ^ i) (b / 2 ^ i) 1)
-      ∙ and_digit (a / 2 ^ i % 2) (b / 2 ^ i % 2) (omega arith) (omega arith)
+      ap (λ (x : ℕ). eqb x 1) (bit_at_and a b i) ∙ at_place (λ x y. eqb (min x y) 1 ≡ (eqb x 1 && eqb y 1)) refl refl refl refl a b i
 
   pub bit_or_law : bit (bit_or a b) i ≡ (bit a i || bit b i)
   unfolding bit
   bit_or_law =
-      ap (λ (x : ℕ). eqb (x % 2) 1) (or_shr a b i)
-      ∙ ap (λ (x : ℕ). eqb x 1) (or_mod (a / 2 ^ i) (b / 2 ^ i) 1)
-      ∙ or_digit (a / 2 ^ i % 2) (b / 2 ^ i % 2) (omega arith) (omega arith)
+      ap (λ (x : ℕ). eqb x 1) (bit_at_or a b i) ∙ at_place (λ x y. eqb (max x y) 1 ≡ (eqb x 1 || eqb y 1)) refl refl refl refl a b i
 
-  pub bit_xor_law : bit (bit_xor a b) i ≡ differs (bit a i) (bit b i)
-  unfolding bit
-  bit_xor_law =
-      ap (λ (x : ℕ). eqb (x % 2) 1) (xor_shr a b i)
-      ∙ ap (λ (x : ℕ). eqb x 1) (xor_mod (a / 2 ^ i) (b / 2 ^ i) 1)
-      ∙ xor_digit (a / 2 ^ i % 2) (b / 2 ^ i % 2) (omega arith) (omega arith)
-
-lone : (a b : Bool) → differs a (a && b) ≡ (a && not b)
-unfolding differs
-lone true b = refl
-lone false b = refl
-
-pub bit_less : (a b i : ℕ) → bit (less a b) i ≡ (bit a i && not (bit b i))
-unfolding less
-bit_less a b i = bit_xor_law a (bit_and a b) i ∙ ap (differs (bit a i)) (bit_and_law a b i) ∙ lone (bit a i) (bit b i)
+  pub bit_less : bit (less a b) i ≡ (bit a i && not (bit b i))
+  unfolding less bit
+  bit_less =
+      ap (λ (x : ℕ). eqb x 1) (bit_at_xor a (bit_and a b) i ∙ ap (λ (x : ℕ). (bit_at a i + x) % 2) (bit_at_and a b i))
+      ∙ at_place (λ x y. eqb ((x + min x y) % 2) 1 ≡ (eqb x 1 && not (eqb y 1))) refl refl refl refl a b i
 
 pub bit_shift : (n k i : ℕ) → bit (n / 2 ^ k) i ≡ bit n (k + i)
 unfolding bit
 bit_shift n k i = ap (λ (x : ℕ). eqb (x % 2) 1) (shr-shr n k i)
 
--- ---- a power of two
-
-power_below : (k j : ℕ) → bit (2 ^ (suc k + j)) j ≡ false
-unfolding bit
-power_below k j =
-    ap (λ (x : ℕ). eqb (x / 2 ^ j % 2) 1) (pow-add 2 (suc k) j)
-    ∙ ap (λ (x : ℕ). eqb (x % 2) 1) (shl-shr (2 ^ suc k) j)
-    ∙ ap (λ (x : ℕ). eqb (x % 2) 1) (sym (one-mul (2 ^ suc k)))
-    ∙ ap (λ (x : ℕ). eqb x 1) (shifted_even 1 k)
-
-power_at : (j : ℕ) → bit (2 ^ j) j ≡ true
-unfolding bit
-power_at j = ap (λ (x : ℕ). eqb (x % 2) 1) (div_self (pow_pos j))
-
-pub bit_above : (n i : ℕ) → n < 2 ^ i → bit n i ≡ false
-unfolding bit
-bit_above n i h = ap (λ (x : ℕ). eqb (x % 2) 1) (div-eq_of_lt h)
-
 pub bit_power : (i j : ℕ) → bit (2 ^ i) j ≡ eqb i j
+unfolding bit
 bit_power i j =
-    elim (dec_lt i j) as (λ _. bit (2 ^ i) j ≡ eqb i j) [
-      | yes h ↦ bit_above (2 ^ i) j (pow-lt h) ∙ sym (ne_eqb i j (λ e. omega arith))
-      | no h ↦ elim (dec_lt j i) as (λ _. bit (2 ^ i) j ≡ eqb i j) [
-        | yes k ↦ let far : i ≡ suc (i - j - 1) + j = omega arith in
-            ap (λ (x : ℕ). bit (2 ^ x) j) far ∙ power_below (i - j - 1) j ∙ sym (ne_eqb i j (λ e. omega arith))
-        | no k ↦ let same : i ≡ j = omega arith in ap (λ (x : ℕ). bit (2 ^ x) j) same ∙ power_at j ∙ sym (eq-eqb i j same)
-      ]
-    ]
+    on (eqb i j)
+    (λ e. ap (λ (x : ℕ). eqb x 1) (ap (λ (k : ℕ). bit_at (2 ^ k) j) (eqb-true i j e) ∙ bit_at-pow_same j) ∙ sym e)
+    (λ e. ap (λ (x : ℕ). eqb x 1) (bit_at-pow_other i j (λ s. eqb-false i j e (sym s))) ∙ sym e)
 
 -- ---- numbers with the same bits are equal
 
-halves : (n i : ℕ) → bit (n / 2) i ≡ bit n (suc i)
-halves n i = let s : 1 + i ≡ suc i = omega arith in bit_shift n 1 i ∙ ap (bit n) s
-
-lowest : (n : ℕ) → bit n 0 ≡ eqb (n % 2) 1
+same_place : (a b i : ℕ) → bit a i ≡ bit b i → bit_at a i ≡ bit_at b i
 unfolding bit
-lowest n = ap (λ (x : ℕ). eqb (x % 2) 1) (div-one n)
-
-same_digit : (a b : ℕ) → a < 2 → b < 2 → eqb a 1 ≡ eqb b 1 → a ≡ b
-same_digit zero zero h k e = refl
-same_digit (suc zero) (suc zero) h k e = refl
-same_digit zero (suc zero) h k e = let z : ◌≡◌ {A = ℕ} 0 1 = cc in absurd (omega arith)
-same_digit (suc zero) zero h k e = let z : ◌≡◌ {A = ℕ} 0 1 = cc in absurd (omega arith)
-same_digit zero (suc (suc b)) h k e = absurd (omega (arith, k))
-same_digit (suc zero) (suc (suc b)) h k e = absurd (omega (arith, k))
-same_digit (suc (suc a)) b h k e = absurd (omega (arith, h))
+same_place a b i =
+    at_place (λ x y. eqb x 1 ≡ eqb y 1 → x ≡ y) (λ e. refl) (λ e. let z : ◌≡◌ {A = Bool} false true = e in cc) (λ e. let z : ◌≡◌ {A = Bool} true false = e in cc) (λ e. refl) a b i
 
 pub same_bits : (k a b : ℕ) → a < 2 ^ k → b < 2 ^ k → ((i : ℕ) → i < k → bit a i ≡ bit b i) → a ≡ b
-same_bits zero a b h k e = omega arith
-same_bits (suc k) a b h m e =
-    let d : 2 ^ suc k ≡ 2 ^ k * 2 = rw add-one at (pow-add 2 k 1) in
-    let up : a / 2 ≡ b / 2 =
-    same_bits k (a / 2) (b / 2) (omega arith) (omega arith) (λ i l. halves a i ∙ e (suc i) (omega arith) ∙ sym (halves b i)) in
-    let down : a % 2 ≡ b % 2 =
-    same_digit (a % 2) (b % 2) (omega arith) (omega arith) (sym (lowest a) ∙ e 0 (omega arith) ∙ lowest b) in
-    omega arith
+same_bits k a b h m e = same_from_bits_below k a b h m (λ i l. same_place a b i (e i l))
 
 no_bits : (i : ℕ) → bit 0 i ≡ false
-no_bits i = bit_above 0 i (pow_pos i)
+unfolding bit
+no_bits i = ap (λ (x : ℕ). eqb x 1) (bit_at-zero i)
 
 pub zero_bits : (k a : ℕ) → a < 2 ^ k → ((i : ℕ) → i < k → bit a i ≡ false) → a ≡ 0
-zero_bits k a h e = same_bits k a 0 h (pow_pos k) (λ i l. e i l ∙ sym (no_bits i))
-
--- every number has a last bit
-lasts : (n : ℕ) → n < 2 ^ n
-lasts zero = pow_pos 0
-lasts (suc n) =
-    let d : 2 ^ suc n ≡ 2 ^ n * 2 = rw add-one at (pow-add 2 n 1) in
-    let h = lasts n in
-    omega arith
+zero_bits k a h e = same_bits k a 0 h (omega arith) (λ i l. e i l ∙ sym (no_bits i))
 
 pub no_bit_zero : (a : ℕ) → ((i : ℕ) → bit a i ≡ false) → a ≡ 0
-no_bit_zero a e = zero_bits a a (lasts a) (λ i l. e i)
+no_bit_zero a e = same_from_bits a 0 (λ i. same_place a 0 i (e i ∙ sym (no_bits i)))
 
 pub bits_zero : (a : ℕ) → a ≡ 0 → (i : ℕ) → bit a i ≡ false
 bits_zero a e i = ap (λ (n : ℕ). bit n i) e ∙ no_bits i

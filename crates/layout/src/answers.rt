@@ -1,5 +1,8 @@
 // What a call answers.
-ghost use Rattle.std.specs.Prelude.{◌≡◌};
+ghost use Rattle.std.specs.Prelude.{◌≡◌, Ok, Err, if◌then◌else◌};
+ghost use Rattle.layout.specs.Answers.{answered};
+
+use rules::refusals::Refusal;
 
 // Refusal 0: x and y as in the bench program's lines. Else x and y are 0.
 #[repr(C)]
@@ -10,18 +13,35 @@ pub struct Answer {
     pub y: u32,
 }
 
-pub fn refused(number: u32) -> Answer
-    ensures { result ≡ record { refusal = number; x = 0; y = 0 } }
-{
-    Answer {
-        refusal: number,
-        x: 0,
-        y: 0,
+// What a call that is not refused tells.
+#[derive(Clone, Copy)]
+pub struct Done {
+    pub x: u32,
+    pub y: u32,
+}
+
+impl From<Result<Done, Refusal>> for Answer {
+    ghost from_gives = { λ outcome answer. answer ≡ answered outcome };
+
+    fn from(outcome: Result<Done, Refusal>) -> Answer {
+        match outcome {
+            Ok(done) => Answer {
+                refusal: 0,
+                x: done.x,
+                y: done.y,
+            },
+            Err(refusal) => Answer {
+                refusal: u32::from(refusal),
+                x: 0,
+                y: 0,
+            },
+        }
     }
 }
 
-pub fn done(x: u32, y: u32) -> Answer
-    ensures { result ≡ record { refusal = 0; x = x; y = y } }
+// A line of "Refused calls": the call goes on where this holds.
+pub fn must(holds: bool, refusal: Refusal) -> Result<(), Refusal>
+    ensures { result ≡ (if holds then Ok tt else Err refusal) }
 {
-    Answer { refusal: 0, x, y }
+    if holds { Ok(()) } else { Err(refusal) }
 }

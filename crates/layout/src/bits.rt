@@ -1,14 +1,9 @@
-// One bit of a word, read and written; a number held down to a largest one.
-ghost use Rattle.std.specs.Prelude.{◌≡◌, ◌^◌, ◌<◌, min};
+// One bit of a word, read and written.
+ghost use Rattle.std.specs.Prelude.{◌≡◌, ◌^◌, ◌<◌};
 ghost use Rattle.rules.specs.Arguments.{bit};
 ghost use Rattle.layout.specs.Bits.{less, with_bit};
 
-pub fn at_most(x: u32, most: u32) -> u32
-    ensures { result ≡ min x most }
-{
-    if x < most { x } else { most }
-}
-
+#[tactic(auto, unfolding(rules::specs::Arguments::bit))]
 pub fn bit(word: u32, i: u32) -> bool
     requires { i < 32 }
     ensures { result ≡ bit word i }
@@ -16,27 +11,27 @@ pub fn bit(word: u32, i: u32) -> bool
     (word >> i) % 2 == 1
 }
 
+#[tactic(auto, using(std::proofs::Common::shl_exact))]
 pub fn power(i: u32) -> u32
     requires { i < 32 }
     ensures { result ≡ 2 ^ i }
 {
-    1u32 << i
+    1 << i
 }
 
 // The bits of a that b lacks.
+#[tactic(auto, unfolding(crate::specs::Bits::less))]
 pub fn less(a: u32, b: u32) -> u32
     ensures { result ≡ less a b }
 {
     a ^ (a & b)
 }
 
+#[tactic(auto, unfolding(crate::specs::Bits::with_bit))]
 pub fn with_bit(word: u32, i: u32, on: bool) -> u32
     requires { i < 32 }
     ensures { result ≡ with_bit word i on }
 {
     let one = power(i);
-    if on {
-        return word | one;
-    }
-    less(word, one)
+    if on { word | one } else { less(word, one) }
 }

@@ -3,16 +3,13 @@
 #![tactic(auto)]
 
 pub mod numbers; // the numbers of docs/RULES.md
-pub mod refusals; // the refusals, by number
-pub mod reasons; // the reasons, by number
-pub mod counters; // the counters, by number
+pub mod ports; // a port, a queue
+pub mod cell_count; // how many cells there are
 pub mod answers; // what a call answers
+pub mod damage; // a word out of range
 pub mod lengths; // the lengths of lent memory
 pub mod counter; // a counter's word
 pub mod bits; // one bit of a word
-
-ghost use Rattle.std.specs.Prelude.{◌≡◌, ◌<◌, ◌≤◌};
-ghost use Rattle.layout.specs.Cells.{clamped};
 
 pub const FIXED_WORDS: usize = 1024;
 
@@ -74,12 +71,3 @@ pub const CELL_SIZE: usize = 80;
 pub const STORED_HEADER: usize = 8;
 
 pub const FIRST_PART: usize = CELL_SIZE - STORED_HEADER;
-
-// A cell number from n on stands for 0: a word that names the cell after another is read so, whatever it holds.
-pub fn below(cell: u32, n: usize) -> usize
-    requires { 1 ≤ n }
-    ensures { (result ≡ clamped n cell) × (result < n) }
-{
-    let i = cell as usize;
-    if i < n { i } else { 0 }
-}

@@ -3,13 +3,14 @@ use Prim.Native.Nat.{ℕ, ◌+◌}
 use mathlib.Core.Path.{◌≡◌, refl, ap, ◌∙◌, subst}
 use mathlib.Core.Bool.{true, false, true≢false}
 use mathlib.Core.List.{List, [], ◌∷◌}
-use mathlib.Core.Option.{none, some}
+use Rattle.std.specs.Prelude.{None as none, Some as some}
 use native.Mathlib.Omega.{arith}
 use lib.ListN.{length}
 use borrow.Author.Tests.{eq-eqb}
 use Rattle.rules.specs.Choice.{sift, is_empty, among}
 use Rattle.rules.specs.Cells.{cells}
-use Rattle.rules.specs.Reasons.{Reason, reason_number}
+use Rattle.rules.specs.Reasons.{reason_number}
+use Rattle.rules.specs.declared.reasons.Reason.{Reason}
 use Rattle.rules.specs.PortTests.{ports_left}
 use Rattle.rules.specs.ReasonTable.{queueing, part_number, reason_table, lines_in, rows_of, reason_for}
 use Rattle.rules.specs.Outcomes.{frame_of, outcome_by, outcome_of, learns, table_after}

@@ -4,7 +4,7 @@ use mathlib.Core.Path.{◌≡◌, refl, sym, ap, ap₂, ◌∙◌}
 use mathlib.Core.Bool.{Bool, true, false, ◌&&◌, false≢true}
 use mathlib.Core.List.{List, [], ◌∷◌, ◌++◌}
 use mathlib.Core.List as Lists
-use mathlib.Core.Option.{Option, none, some}
+use Rattle.std.specs.Prelude.{Option, None as none, Some as some}
 use native.Mathlib.Omega.{arith}
 use lib.Dec.{eqb}
 use lib.ListN.{length}
@@ -12,8 +12,12 @@ use borrow.Author.Tests.{eqb-true, eq-eqb, ne_eqb}
 use Rattle.std.specs.Prelude.{if◌then◌else◌}
 use Rattle.rules.specs.Choice.{is_nothing, among, Distinct}
 use Rattle.rules.specs.Numbers.{all_ports}
-use Rattle.rules.specs.Reasons.{Reason, short, long, group_source, tag_count, port_blocking, port_listening, vid4095, no_vlan, no_member, port_learning, no_candidate, no_port_left, no_room, reason_number}
-use Rattle.rules.specs.Counters.{Counter, offered, counter_number}
+use Rattle.rules.specs.Reasons.{reason_number}
+use Rattle.rules.specs.declared.reasons.Reason.{Reason}
+use Rattle.rules.specs.declared.reasons.Reason.TheVariants.{Short as short, Long as long, GroupSource as group_source, TagCount as tag_count, PortBlocking as port_blocking, PortListening as port_listening, Vid4095 as vid4095, NoVlan as no_vlan, NoMember as no_member, PortLearning as port_learning, NoCandidate as no_candidate, NoPortLeft as no_port_left, NoRoom as no_room}
+use Rattle.rules.specs.Counters.{counter_number}
+use Rattle.rules.specs.declared.counters.Counter.{Counter}
+use Rattle.rules.specs.declared.counters.Counter.TheVariants.{Offered as offered}
 use Rattle.rules.specs.Addresses.{is_no_place}
 use Rattle.rules.specs.PortTests.{Test, passes, not_member, arrival, elsewhere, state, queue_off, ports_left}
 use Rattle.rules.specs.Facts.{Facts, facts_of}

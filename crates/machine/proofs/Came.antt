@@ -4,7 +4,7 @@ use Prim.Native.Nat.{ℕ, ◌≤◌}
 use mathlib.Core.Path.{◌≡◌, refl, sym, ap, ◌∙◌}
 use mathlib.Core.Bool.{true, ◌&&◌}
 use mathlib.Core.List.{List, [], ◌∷◌}
-use mathlib.Core.Option.{Option, none, some}
+use Rattle.std.specs.Prelude.{Option, None as none, Some as some}
 use native.Mathlib.Omega.{arith}
 use lib.Dec.{eqb}
 use lib.ListN.{length}
@@ -12,7 +12,7 @@ use borrow.Author.Tests.{ltb-false}
 use Rattle.rules.specs.Choice.{sift, among, Each, nobody, also}
 use Rattle.rules.specs.Lines.{first}
 use Rattle.rules.specs.Tags.{Bytes, tags_of}
-use Rattle.rules.specs.Reasons.{Reason}
+use Rattle.rules.specs.declared.reasons.Reason.{Reason}
 use Rattle.rules.specs.PortTests.{ports_left}
 use Rattle.rules.specs.Facts.{Packet, Facts, facts_of}
 use Rattle.rules.specs.ReasonTable.{reading, part_number, reason_table, lines_in, rows_of, reason_for}

@@ -3,11 +3,12 @@ use Prim.Native.Nat.{ℕ, ◌≤◌}
 use mathlib.Core.Path.{◌≡◌, refl, sym, ap, ◌∙◌}
 use mathlib.Core.Bool.{◌&&◌}
 use mathlib.Core.List.{List, [], ◌∷◌, ◌++◌}
-use mathlib.Core.Option.{none, some}
+use Rattle.std.specs.Prelude.{None as none, Some as some}
 use lib.Dec.{leb}
 use borrow.Author.Tests.{leb-true, le-leb}
 use Rattle.rules.specs.Lines.{first}
-use Rattle.rules.specs.Refusals.{memory_length, fresh_lines}
+use Rattle.rules.specs.Refusals.{fresh_lines}
+use Rattle.rules.specs.declared.refusals.Refusal.TheVariants.{MemoryLength as memory_length}
 use Rattle.rules.proofs.Choice.{on, on_option, and_left, and_right}
 use Rattle.machine.specs.State.{State, Call}
 use Rattle.machine.specs.Machine.{perform, next}

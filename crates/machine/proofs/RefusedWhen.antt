@@ -4,7 +4,7 @@ use mathlib.Core.Path.{◌≡◌, refl, sym, ap, ap₂, ◌∙◌}
 use mathlib.Core.Logic.{◌↔◌}
 use mathlib.Core.Bool.{Bool, true, false, not, ◌&&◌, false≢true, true≢false}
 use mathlib.Core.List.{[], ◌∷◌}
-use mathlib.Core.Option.{none, some}
+use Rattle.std.specs.Prelude.{None as none, Some as some}
 use native.Mathlib.Omega.{arith}
 use lib.Dec.{eqb, leb, ltb}
 use lib.ListN.{length}
@@ -16,7 +16,9 @@ use Rattle.rules.specs.Tables.{is_found, nowhere}
 use Rattle.rules.specs.Addresses.{Table, key, find, empty_for, no_place_for}
 use Rattle.rules.specs.Arguments.{is_vid, is_address, VlanNumbers, port_in_range, vlan_in_range}
 use Rattle.rules.specs.RangeTheorems.{VlanFits}
-use Rattle.rules.specs.Refusals.{Refusal, port_above_four, out_of_range, group_address, short_buffer, vlans_in_use, vlan_not_there, places_in_use, address_not_there, refusal_number, Lines, frame_in_lines, take_lines, age_lines, counter_lines, port_lines, vlan_lines, clear_vlan_lines, static_lines, remove_lines, map_lines, queue_switch_lines, drain_lines, bpdu_lines}
+use Rattle.rules.specs.Refusals.{refusal_number, Lines, frame_in_lines, take_lines, age_lines, counter_lines, port_lines, vlan_lines, clear_vlan_lines, static_lines, remove_lines, map_lines, queue_switch_lines, drain_lines, bpdu_lines}
+use Rattle.rules.specs.declared.refusals.Refusal.{Refusal}
+use Rattle.rules.specs.declared.refusals.Refusal.TheVariants.{PortAboveFour as port_above_four, OutOfRange as out_of_range, GroupAddress as group_address, ShortBuffer as short_buffer, VlansInUse as vlans_in_use, VlanNotThere as vlan_not_there, PlacesInUse as places_in_use, AddressNotThere as address_not_there}
 use Rattle.rules.proofs.Choice.{on, and_left, and_right}
 use Rattle.rules.proofs.Tables.{on_found}
 use Rattle.rules.proofs.Ranges.{vids, addresses, range_theorems}

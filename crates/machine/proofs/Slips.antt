@@ -3,19 +3,24 @@ use Prim.Native.Nat.{ℕ}
 use mathlib.Core.Path.{◌≡◌, refl, sym, ap, ◌∙◌}
 use mathlib.Core.Bool.{true, false, ◌||◌, false≢true, true≢false}
 use mathlib.Core.List.{List, [], ◌∷◌}
-use mathlib.Core.Option.{none, some}
+use Rattle.std.specs.Prelude.{None as none, Some as some}
 use native.Mathlib.Omega.{arith}
 use lib.Dec.{eqb}
 use borrow.Author.Tests.{eqb-true, ne_eqb}
 use Rattle.rules.specs.Choice.{sift, among}
 use Rattle.rules.specs.Lines.{first}
 use Rattle.rules.specs.Tags.{Header, Tag, is_group, destination, source}
-use Rattle.rules.specs.Operations.{Source, outermost, none as no_kind, pop, push, swap, pop_all, Operation, Origin}
+use Rattle.rules.specs.Operations.{Operation, Origin}
+use Rattle.rules.specs.declared.operations.Source.{Source}
+use Rattle.rules.specs.declared.operations.Source.TheVariants.{Outermost as outermost}
+use Rattle.rules.specs.declared.operations.Kind.TheVariants.{Nothing as no_kind, Pop as pop, Push as push, Swap as swap, PopAll as pop_all}
 use Rattle.rules.specs.LeavingTheorems.{HeaderFrom, from_operation, from_outermost, outermost_missing, from_second, second_missing, both_missing, IsNew, Operated, by_none, by_pop, by_pop_of_none, by_push, by_swap, by_swap_of_none, by_pop_all}
-use Rattle.rules.specs.Settings.{Vlan, learning, is_learning, vlan_of}
+use Rattle.rules.specs.Settings.{Vlan, is_learning, vlan_of}
+use Rattle.rules.specs.declared.states.PortState.TheVariants.{Learning as learning}
 use Rattle.rules.specs.Tables.{nowhere}
 use Rattle.rules.specs.Addresses.{Entry, key, found, find}
-use Rattle.rules.specs.Reasons.{no_candidate, reason_number}
+use Rattle.rules.specs.Reasons.{reason_number}
+use Rattle.rules.specs.declared.reasons.Reason.TheVariants.{NoCandidate as no_candidate}
 use Rattle.rules.specs.PortTests.{passes, state, queue_off}
 use Rattle.rules.specs.Facts.{facts_of}
 use Rattle.rules.specs.ReasonTable.{choosing, part_number, reason_table, lines_in, rows_of, reason_for}

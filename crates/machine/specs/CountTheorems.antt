@@ -1,11 +1,12 @@
 -- What each counter counts of each call: every counter, every port, exactly when. `proofs/CallCounts.antt` proves it.
 -- Assumes nothing: these are definitions.
 use Rattle.std.specs.Prelude.{ℕ, ◌≤◌, ◌≡◌, Bool, false, ◌&&◌, [], eqb, length, if◌then◌else◌}
-use Rattle.std.proofs.Math.Option.{Option, none, some}
+use Rattle.std.specs.Prelude.{Option, None as none, Some as some}
 use Rattle.rules.specs.Choice.{is_nothing}
 use Rattle.rules.specs.Tables.{nowhere}
 use Rattle.rules.specs.Addresses.{find, empty_for, after_look_up}
-use Rattle.rules.specs.Reasons.{Reason, reason_number}
+use Rattle.rules.specs.Reasons.{reason_number}
+use Rattle.rules.specs.declared.reasons.Reason.{Reason}
 use Rattle.rules.specs.PortTests.{passes, state, queue_off}
 use Rattle.rules.specs.ReasonTable.{reason_for}
 use Rattle.rules.specs.ArrivalTheorems.{PastEntering, PastChoosing}

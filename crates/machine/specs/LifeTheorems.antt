@@ -1,7 +1,7 @@
 -- Histories over all fourteen calls, fresh calls in the middle and refused ones included: each demand holds after every
 -- such list. `proofs/Lives.antt` proves it. Assumes nothing: these are definitions.
 use Rattle.std.specs.Prelude.{ℕ, ◌≤◌, ◌≡◌, List, []}
-use Rattle.rules.specs.Refusals.{memory_length}
+use Rattle.rules.specs.declared.refusals.Refusal.TheVariants.{MemoryLength as memory_length}
 use Rattle.machine.specs.State.{State, Call, refused, done}
 use Rattle.machine.specs.Machine.{perform, next}
 use Rattle.machine.specs.History.{fresh, after, HostCall, start, call, misfit, after₁, answer₁, life, Current}

@@ -1,15 +1,16 @@
 -- When each call gets each of its refusals, in the words of the table of refusals. (1 and 10 are of lent memory; 1 of
 -- the fresh call: `LifeTheorems`.) `proofs/RefusedWhen.antt` proves it. Assumes nothing: these are definitions.
 use Rattle.std.specs.Prelude.{ℕ, ◌^◌, ◌≤◌, ◌<◌, ◌≡◌, ◌↔◌, true, false, length}
-use Rattle.std.proofs.Math.Option.{none}
+use Rattle.std.specs.Prelude.{None as none}
 use Rattle.rules.specs.Tags.{is_group}
 use Rattle.rules.specs.Settings.{is_there}
 use Rattle.rules.specs.Tables.{nowhere}
 use Rattle.rules.specs.Addresses.{key, find, empty_for}
 use Rattle.rules.specs.Arguments.{VlanNumbers}
 use Rattle.rules.specs.RangeTheorems.{PortFits, VlanFits}
-use Rattle.rules.specs.Refusals.{Refusal, port_above_four, out_of_range, group_address, short_buffer, vlans_in_use}
-use Rattle.rules.specs.Refusals.{vlan_not_there, places_in_use, address_not_there}
+use Rattle.rules.specs.declared.refusals.Refusal.{Refusal}
+use Rattle.rules.specs.declared.refusals.Refusal.TheVariants.{PortAboveFour as port_above_four, OutOfRange as out_of_range, GroupAddress as group_address, ShortBuffer as short_buffer, VlansInUse as vlans_in_use}
+use Rattle.rules.specs.declared.refusals.Refusal.TheVariants.{VlanNotThere as vlan_not_there, PlacesInUse as places_in_use, AddressNotThere as address_not_there}
 use Rattle.rules.specs.Requests.{FrameInRequest, TakeRequest, CounterRequest, PortRequest, StaticRequest, RemoveRequest}
 use Rattle.rules.specs.Requests.{MapRequest, SwitchRequest}
 use Rattle.machine.specs.State.{State, Call, frame_in, take, age, counter, port, vlan, clear_vlan, static, remove}

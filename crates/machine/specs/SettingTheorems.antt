@@ -1,8 +1,9 @@
 -- Each setting call changes its own thing and nothing else; and the fresh switch. `proofs/SettingCalls.antt` proves it.
 -- Assumes nothing: these are definitions.
 use Rattle.std.specs.Prelude.{ℕ, ◌≤◌, ◌≡◌, true, false, [], ◌∷◌}
-use Rattle.std.proofs.Math.Option.{none}
-use Rattle.rules.specs.Settings.{Settings, Vlan, disabled, no_operation, is_there, vlan_of}
+use Rattle.std.specs.Prelude.{None as none}
+use Rattle.rules.specs.Settings.{Settings, Vlan, no_operation, is_there, vlan_of}
+use Rattle.rules.specs.declared.states.PortState.TheVariants.{Disabled as disabled}
 use Rattle.rules.specs.Addresses.{key, set_static}
 use Rattle.rules.specs.Addresses as Addresses
 use Rattle.rules.specs.Arguments.{VlanNumbers, port_of, vlan_entry}

@@ -1,16 +1,17 @@
 -- The slips that are seen in class, each as its opposite, said of the call itself. `proofs/Slips.antt` proves it.
 -- Assumes nothing: these are definitions.
 use Rattle.std.specs.Prelude.{ℕ, ◌≡◌, true, false, List, [], ◌∷◌, ◌++◌}
-use Rattle.std.proofs.Math.Option.{none}
+use Rattle.std.specs.Prelude.{None as none}
 use Rattle.rules.specs.Choice.{Each, among}
 use Rattle.rules.specs.Tags.{Tag, tags_of, destination, source}
-use Rattle.rules.specs.Operations.{outermost, push, swap}
+use Rattle.rules.specs.declared.operations.Source.TheVariants.{Outermost as outermost}
+use Rattle.rules.specs.declared.operations.Kind.TheVariants.{Push as push, Swap as swap}
 use Rattle.rules.specs.Settings.{vlan_of}
 use Rattle.rules.specs.Tables.{nowhere}
 use Rattle.rules.specs.Addresses.{Entry, key, found, find}
 use Rattle.rules.specs.PortTests.{passes}
 use Rattle.rules.specs.ReasonTable.{reason_for}
-use Rattle.rules.specs.Settings as Settings
+use Rattle.rules.specs.declared.states.PortState.TheVariants.{Learning as learning_state}
 use Rattle.rules.specs.ArrivalTheorems.{PastEntering, DisabledOrForwarding}
 use Rattle.machine.specs.Waiting.{Waiting, cells_in_use, waits_at}
 use Rattle.rules.specs.Requests.{FrameInRequest, TakeRequest}
@@ -83,7 +84,7 @@ pub record FoundNoMember : Type 0 where
       → (perform s (frame_in c)).core.waiting ≡ s.core.waiting
   pub reason_eleven : (s : State) (c : FrameInRequest) (allowed : Allowed s (frame_in c)) → (facts_now s c).bpdu ≡ false
       → (i : ℕ) (e : Entry) → (facts_now s c).look_up ≡ found i e → (facts_now s c).vlan.member e.port ≡ false
-      → PastEntering (facts_now s c) → ((facts_now s c).state ≡ Settings.learning → ⊥)
+      → PastEntering (facts_now s c) → ((facts_now s c).state ≡ learning_state → ⊥)
       → (perform s (frame_in c)).answer ≡ done 11 0 []
 
 -- "Learning before lookup, so a frame to its own sender counts as found." A frame from an unknown station to itself is

@@ -27,7 +27,7 @@ not_last l p last c d ds b once e =
     omega (arith, once c)
 
 once_rest : (c : ℕ) (cs : List ℕ) → ((x : ℕ) → times x (c ∷ cs) ≤ 1) → (x : ℕ) → times x cs ≤ 1
-once_rest c cs once x = omega (arith, once x, times_rest x c cs)
+once_rest c cs once x = grind arith
 
 -- ---- read from memory
 

@@ -92,7 +92,7 @@ module _ (n p q : ℕ) (l : List ℕ) (long : link_words n ≤ length l) (port :
     m = popped n p q l
 
     mine : Queued n l p q (c ∷ tail)
-    mine = subst (Queued n l p q) head (S.queued p q port queue)
+    mine = grind arith
 
     module _ (r s : ℕ) (hr : r < 5) (hs : s < 4) (ne : r ≡ p → s ≡ q → ⊥) where
       same_last : Queued n l p q (c ∷ []) → ListSame r s (lists r s) l m
@@ -130,10 +130,7 @@ module _ (n p q : ℕ) (l : List ℕ) (long : link_words n ≤ length l) (port :
 
     pub left_other : (r s : ℕ) → (r ≡ p → s ≡ q → ⊥) → left p q tail lists r s ≡ lists r s
     unfolding left
-    left_other r s ne =
-        on (eqb p r)
-        (λ e. on (eqb q s) (λ f. absurd (ne (sym (eqb-true p r e)) (sym (eqb-true q s f)))) (λ f. rw (e, f)))
-        (λ e. rw e)
+    left_other r s ne = grind arith
 
     pub queues_popped : Queues n m (left p q tail lists)
     queues_popped =

@@ -178,10 +178,7 @@ module _ (n p q x : ℕ) (l : List ℕ) (long : link_words n ≤ length l) (port
 
     pub joined_other : (r s : ℕ) → (r ≡ p → s ≡ q → ⊥) → joined p q x lists r s ≡ lists r s
     unfolding joined
-    joined_other r s ne =
-        on (eqb r p)
-        (λ e. on (eqb s q) (λ f. absurd (ne (eqb-true r p e) (eqb-true s q f))) (λ f. rw (e, f)))
-        (λ e. rw e)
+    joined_other r s ne = grind arith
 
     -- a frame that is in no queue of the port joins
     pub queues_pushed : ((s : ℕ) → s < 4 → times x (lists p s) ≡ 0) → Queues n m (joined p q x lists)

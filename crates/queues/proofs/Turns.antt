@@ -27,7 +27,7 @@ module _ (turn : List ℕ → List ℕ) (p q : ℕ) where
 
     pub count_next : turn_count turn p q (n - t) l ≡ turn_count turn p q (n - (t + 1)) m + 1
     unfolding turn_count
-    count_next = ap (λ (k : ℕ). turn_count turn p q k l) (less n t more) ∙ rw (waits, is)
+    count_next = grind arith
 
   -- the queue does not wait
   pub turns_stop : (k : ℕ) (l : List ℕ) → bit (waiting_of l p) q ≡ false → turns turn p q k l ≡ l
@@ -43,8 +43,8 @@ module _ (turn : List ℕ → List ℕ) (p q : ℕ) where
   -- no turn is left
   pub turns_end : (k : ℕ) (l : List ℕ) → k ≤ 0 → turns turn p q k l ≡ l
   unfolding turns
-  turns_end k l h = let none : k ≡ 0 = omega arith in rw none
+  turns_end k l h = grind arith
 
   pub count_end : (k : ℕ) (l : List ℕ) → k ≤ 0 → turn_count turn p q k l ≡ 0
   unfolding turn_count
-  count_end k l h = let none : k ≡ 0 = omega arith in rw none
+  count_end k l h = grind arith

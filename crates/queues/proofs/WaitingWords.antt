@@ -1,4 +1,5 @@
 -- The words of waiting queues stay in range as frames join and leave. Assumes nothing.
+use Rattle.std.proofs.lemmas.Grind.{common_steps}
 use Prim.Native.Nat.{ℕ, ◌≤◌, ◌<◌}
 use mathlib.Core.Bool.{true, false}
 use mathlib.Core.Path.{◌≡◌}
@@ -23,10 +24,7 @@ other_word : (l : List ℕ) (w v : ℕ) → ((r : ℕ) → r < 5 → waiting_wor
 other_word l w v ne good r hr = rw (get_or-set_other l w (waiting_word r) v 0 (ne r hr)) (good r hr)
 
 this_word : (l : List ℕ) (p v : ℕ) → waiting_word p < length l → v < 16 → WaitingInRange l → WaitingInRange (set l (waiting_word p) v)
-this_word l p v long small good r hr =
-    on (eqb r p)
-    (λ e. rw (eqb-true r p e) (rw (get_or-set_same l (waiting_word p) v 0 long) small))
-    (λ e. rw (get_or-set_other l (waiting_word p) (waiting_word r) v 0 (λ z. eqb-false r p e (omega arith))) (good r hr))
+this_word l p v long small good r hr = grind (arith, common_steps)
 
 module _ (n p q : ℕ) (l : List ℕ) (long : link_words n ≤ length l) (port : p < 5) (queue : q < 4) (good : WaitingInRange l) where
   pub waiting_pushed : (x : ℕ) → WaitingInRange (pushed n p q x l)

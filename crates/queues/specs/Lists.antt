@@ -3,8 +3,7 @@
 use Rattle.std.specs.Prelude.{ℕ, zero, suc, ◌+◌, Bool, ◌&&◌, true, false, List, [], ◌∷◌, get_or, set, eqb, ltb, if◌then◌else◌}
 use Rattle.layout.specs.Bits.{with_bit}
 use Rattle.layout.specs.Places.{waiting_word, oldest_word, youngest_word, behind_word}
-use Rattle.queues.specs.declared.Highest.{Highest}
-use Rattle.queues.specs.declared.Highest.TheVariants.{Queue, Nothing}
+use Rattle.std.specs.Prelude.{Option, Some as some, None as none}
 unfoldable pub use Rattle.rules.specs.Arguments.{bit}
 unfoldable pub use Rattle.layout.specs.Cells.{clamped}
 
@@ -45,17 +44,17 @@ all_waiting_in_range links =
     && waiting_in_range links 3
     && waiting_in_range links 4
 
-unfoldable pub highest_of : ℕ → Highest
+unfoldable pub highest_of : ℕ → Option ℕ
 highest_of w =
     if bit w 3
-    then Queue 3
+    then some 3
     else
     (if bit w 2
-    then Queue 2
+    then some 2
     else
     (if bit w 1
-    then Queue 1
-    else (if bit w 0 then Queue 0 else Nothing)))
+    then some 1
+    else (if bit w 0 then some 0 else none)))
 
 -- ---- the frames of a queue, the oldest first
 

@@ -1,10 +1,9 @@
 -- What it means that link memory holds a list of frames as a queue, and that it holds all 20. A frame is known by its
 -- first cell. Assumes nothing: these are definitions.
 use Rattle.std.specs.Prelude.{ℕ, ◌+◌, ◌≤◌, ◌<◌, ◌≡◌, Bool, true, false, ◌&&◌, List, [], ◌∷◌, ◌++◌, eqb, if◌then◌else◌}
+use Rattle.std.specs.Prelude.{Option, None as none, Some as queue}
 use Rattle.layout.specs.Counting.{times}
 use Rattle.rules.specs.Choice.{Each}
-use Rattle.queues.specs.declared.Highest.{Highest}
-use Rattle.queues.specs.declared.Highest.TheVariants.{Queue, Nothing}
 use Rattle.queues.specs.Lists.{waiting_of, oldest_of, youngest_of, behind_of, bit, list_of}
 
 unfoldable pub some : List ℕ → Bool
@@ -50,17 +49,17 @@ left p q tail lists r s = if eqb p r && eqb q s then tail else lists r s
 
 -- ---- the highest queue that is not empty, of a port's four
 
-unfoldable pub highest_list : (ℕ → List ℕ) → Highest
+unfoldable pub highest_list : (ℕ → List ℕ) → Option ℕ
 highest_list lists =
     if some (lists 3)
-    then Queue 3
+    then queue 3
     else
     (if some (lists 2)
-    then Queue 2
+    then queue 2
     else
     (if some (lists 1)
-    then Queue 1
-    else (if some (lists 0) then Queue 0 else Nothing)))
+    then queue 1
+    else (if some (lists 0) then queue 0 else none)))
 
 pub record HighestIs (lists : ℕ → List ℕ) (q : ℕ) : Type 0 where
   pub below : q < 4

@@ -3,123 +3,150 @@
 // in memory stands for 0.
 #![tactic(auto)]
 
-ghost use Rattle.std.specs.Prelude.{◌≡◌, ◌+◌, ◌≤◌, ◌<◌, length};
+ghost use Rattle.std.specs.Prelude.{◌≡◌, ◌+◌, ◌≤◌, ◌<◌, length, option_map};
+ghost use Rattle.rules.specs.Cells.{most_cells};
+ghost use Rattle.layout.specs.Places as places;
 ghost use Rattle.layout.specs.Places.{link_words};
 ghost use Rattle.queues.specs.Lists as spec;
 
 use layout::bits::{bit, with_bit};
-use layout::{BEHIND, CELL_STRIDE, OLDEST, PORT_STRIDE, QUEUE_STRIDE, WAITING, YOUNGEST, below};
+use layout::cell_count::CellCount;
+use layout::ports::{Port, Queue};
+use layout::{BEHIND, CELL_STRIDE, OLDEST, PORT_STRIDE, QUEUE_STRIDE, WAITING, YOUNGEST};
 
-// The highest queue of a port that waits.
-#[derive(Clone, Copy)]
-pub enum Highest {
-    Queue(u32),
-    Nothing,
+// Where a port's word of the queues that wait stands, a queue's oldest and youngest frame, and the frame behind one.
+fn waiting_at(port: Port) -> usize
+    ensures { result ≡ places.waiting_word port.number }
+{
+    WAITING + PORT_STRIDE * port.index()
+}
+
+fn oldest_at(port: Port, queue: Queue) -> usize
+    ensures { result ≡ places.oldest_word port.number queue.number }
+{
+    OLDEST + PORT_STRIDE * port.index() + QUEUE_STRIDE * queue.index()
+}
+
+fn youngest_at(port: Port, queue: Queue) -> usize
+    ensures { result ≡ places.youngest_word port.number queue.number }
+{
+    YOUNGEST + PORT_STRIDE * port.index() + QUEUE_STRIDE * queue.index()
+}
+
+fn behind_at(port: Port, cell: usize) -> usize
+    requires { cell < most_cells }
+    ensures { result ≡ places.behind_word port.number cell }
+{
+    BEHIND + port.index() + CELL_STRIDE * cell
 }
 
 // Is a port's word of the queues that wait in range?
-pub fn in_range(links: &[u32], port: usize) -> bool
-    requires { (link_words 0 ≤ length links.now) × (port < 5) }
-    ensures { result ≡ spec.waiting_in_range links.now port }
+#[tactic(auto, unfolding(crate::specs::Lists::waiting_in_range))]
+pub fn in_range(links: &[u32], port: Port) -> bool
+    requires { link_words 0 ≤ length links.now }
+    ensures { result ≡ spec.waiting_in_range links.now port.number }
 {
-    links[WAITING + PORT_STRIDE * port] < 16
+    links[waiting_at(port)] < 16
 }
 
 // The same of all ports.
+#[tactic(auto, unfolding(crate::specs::Lists::all_waiting_in_range))]
 pub fn all_in_range(links: &[u32]) -> bool
     requires { link_words 0 ≤ length links.now }
     ensures { result ≡ spec.all_waiting_in_range links.now }
 {
-    in_range(links, 0)
-        & in_range(links, 1)
-        & in_range(links, 2)
-        & in_range(links, 3)
-        & in_range(links, 4)
+    let mut good = true;
+    for number in 0..5 {
+        good &= in_range(links, Port { number });
+    }
+    good
 }
 
 // Does a queue wait?
-pub fn waits(links: &[u32], port: usize, queue: u32) -> bool
-    requires { (link_words 0 ≤ length links.now) × (port < 5) × (queue < 4) }
-    ensures { result ≡ spec.bit (spec.waiting_of links.now port) queue }
+pub fn waits(links: &[u32], port: Port, queue: Queue) -> bool
+    requires { link_words 0 ≤ length links.now }
+    ensures { result ≡ spec.bit (spec.waiting_of links.now port.number) queue.number }
 {
-    bit(links[WAITING + PORT_STRIDE * port], queue)
+    bit(links[waiting_at(port)], queue.number)
 }
 
 // The word of a queue's oldest frame, as it stands there.
-pub fn oldest_word(links: &[u32], port: usize, queue: u32) -> u32
-    requires { (link_words 0 ≤ length links.now) × (port < 5) × (queue < 4) }
-    ensures { result ≡ spec.oldest_of links.now port queue }
+pub fn oldest_word(links: &[u32], port: Port, queue: Queue) -> u32
+    requires { link_words 0 ≤ length links.now }
+    ensures { result ≡ spec.oldest_of links.now port.number queue.number }
 {
-    links[OLDEST + PORT_STRIDE * port + QUEUE_STRIDE * (queue as usize)]
+    links[oldest_at(port, queue)]
 }
 
 // The first cell of a queue's oldest frame, if the queue waits.
-pub fn oldest(links: &[u32], n: usize, port: usize, queue: u32) -> usize
-    requires { (link_words n ≤ length links.now) × (1 ≤ n) × (port < 5) × (queue < 4) }
-    ensures { (result ≡ spec.oldest_cell n links.now port queue) × (result < n) }
+pub fn oldest(links: &[u32], n: CellCount, port: Port, queue: Queue) -> usize
+    requires { link_words n.number ≤ length links.now }
+    ensures { (result ≡ spec.oldest_cell n.number links.now port.number queue.number) × (result < n.number) }
 {
-    below(oldest_word(links, port, queue), n)
+    n.below(oldest_word(links, port, queue))
 }
 
 // Is a frame the youngest of its queue?
-pub fn is_youngest(links: &[u32], port: usize, queue: u32, cell: usize) -> bool
-    requires { (link_words 0 ≤ length links.now) × (port < 5) × (queue < 4) }
-    ensures { result ≡ spec.is_youngest links.now port queue cell }
+#[tactic(auto, unfolding(crate::specs::Lists::is_youngest))]
+pub fn is_youngest(links: &[u32], port: Port, queue: Queue, cell: usize) -> bool
+    requires { link_words 0 ≤ length links.now }
+    ensures { result ≡ spec.is_youngest links.now port.number queue.number cell }
 {
-    cell == links[YOUNGEST + PORT_STRIDE * port + QUEUE_STRIDE * (queue as usize)] as usize
+    cell == links[youngest_at(port, queue)] as usize
 }
 
 // The frame behind one of a queue, if it is not the youngest.
-pub fn behind(links: &[u32], n: usize, port: usize, cell: usize) -> usize
-    requires { (link_words n ≤ length links.now) × (port < 5) × (cell < n) }
-    ensures { (result ≡ spec.behind_cell n links.now port cell) × (result < n) }
+pub fn behind(links: &[u32], n: CellCount, port: Port, cell: usize) -> usize
+    requires { (link_words n.number ≤ length links.now) × (cell < n.number) }
+    ensures { (result ≡ spec.behind_cell n.number links.now port.number cell) × (result < n.number) }
 {
-    below(links[BEHIND + port + CELL_STRIDE * cell], n)
+    n.below(links[behind_at(port, cell)])
 }
 
 // The highest-numbered queue that waits at a port.
-pub fn highest_waiting(links: &[u32], port: usize) -> Highest
-    requires { (link_words 0 ≤ length links.now) × (port < 5) }
-    ensures { result ≡ spec.highest_of (spec.waiting_of links.now port) }
+#[tactic(auto, using(crate::proofs::WaitingBits::highest_none, crate::proofs::WaitingBits::below_four, crate::proofs::WaitingBits::highest_at))]
+pub fn highest_waiting(links: &[u32], port: Port) -> Option<Queue>
+    requires { link_words 0 ≤ length links.now }
+    ensures { option_map (λ queue. queue.number) result ≡ spec.highest_of (spec.waiting_of links.now port.number) }
 {
-    let waiting = links[WAITING + PORT_STRIDE * port] % 16;
+    let waiting = links[waiting_at(port)] % 16;
     if waiting == 0 {
-        return Highest::Nothing;
+        return None;
     }
-    Highest::Queue(31 - u32::leading_zeros(waiting))
+    let number = waiting.ilog2();
+    Some(Queue { number })
 }
 
 // A frame joins a queue: behind the youngest, or as the first.
-pub fn push(links: &mut [u32], n: usize, port: usize, queue: u32, cell: u32)
-    requires { (link_words n ≤ length links.old) × (1 ≤ n) × (port < 5) × (queue < 4) }
-    ensures { links.new ≡ spec.pushed n port queue cell links.old }
+#[tactic(auto, unfolding(crate::specs::Lists::pushed))]
+pub fn push(links: &mut [u32], n: CellCount, port: Port, queue: Queue, cell: u32)
+    requires { link_words n.number ≤ length links.old }
+    ensures { links.new ≡ spec.pushed n.number port.number queue.number cell links.old }
 {
-    let at = WAITING + PORT_STRIDE * port;
-    let oldest = OLDEST + PORT_STRIDE * port + QUEUE_STRIDE * (queue as usize);
-    let youngest = YOUNGEST + PORT_STRIDE * port + QUEUE_STRIDE * (queue as usize);
+    let at = waiting_at(port);
+    let youngest = youngest_at(port, queue);
     let waiting = links[at];
-    if bit(waiting, queue) {
-        let last = below(links[youngest], n);
-        links[BEHIND + port + CELL_STRIDE * last] = cell;
+    if bit(waiting, queue.number) {
+        let last = n.below(links[youngest]);
+        links[behind_at(port, last)] = cell;
         links[youngest] = cell;
         return;
     }
-    links[oldest] = cell;
+    links[oldest_at(port, queue)] = cell;
     links[youngest] = cell;
-    links[at] = with_bit(waiting, queue, true);
+    links[at] = with_bit(waiting, queue.number, true);
 }
 
 // The oldest frame of a queue, whose first cell the caller has, leaves it. The words that it stood in keep its number.
-pub fn pop_oldest(links: &mut [u32], n: usize, port: usize, queue: u32, first: usize)
-    requires { (link_words n ≤ length links.old) × (first < n) × (port < 5) × (queue < 4) }
-    ensures { links.new ≡ spec.popped_at port queue first links.old }
+#[tactic(auto, unfolding(crate::specs::Lists::popped_at))]
+pub fn pop_oldest(links: &mut [u32], n: CellCount, port: Port, queue: Queue, first: usize)
+    requires { (link_words n.number ≤ length links.old) × (first < n.number) }
+    ensures { links.new ≡ spec.popped_at port.number queue.number first links.old }
 {
-    let at = WAITING + PORT_STRIDE * port;
-    let oldest = OLDEST + PORT_STRIDE * port + QUEUE_STRIDE * (queue as usize);
-    let youngest = YOUNGEST + PORT_STRIDE * port + QUEUE_STRIDE * (queue as usize);
-    if links[youngest] as usize == first {
-        links[at] = with_bit(links[at], queue, false);
+    let at = waiting_at(port);
+    if links[youngest_at(port, queue)] as usize == first {
+        links[at] = with_bit(links[at], queue.number, false);
         return;
     }
-    links[oldest] = links[BEHIND + port + CELL_STRIDE * first];
+    links[oldest_at(port, queue)] = links[behind_at(port, first)];
 }

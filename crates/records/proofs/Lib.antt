@@ -1,6 +1,4 @@
 -- The proofs of the theorems about records.
 pub mod Cutting
+pub mod Decimals
 pub mod FramingLaws
-pub mod LineLaws
-pub mod MoveLaws
-pub mod RequestLaws

@@ -1,6 +1,5 @@
 -- The bench program: the line of a record. Assumes nothing: these are definitions.
-use Rattle.std.specs.Prelude.{ℕ, zero, suc, ◌+◌, ◌/◌, ◌%◌, List, [], ◌∷◌, ◌++◌, eqb, ltb, length, if◌then◌else◌}
-use Rattle.std.proofs.lemmas.List.Edits.{sets}
+use Rattle.std.specs.Prelude.{ℕ, zero, suc, ◌+◌, ◌/◌, ◌%◌, List, [], ◌∷◌, ◌++◌, eqb, ltb, if◌then◌else◌, codes}
 use Rattle.layout.specs.declared.answers.Answer.{Answer}
 
 -- the ASCII code of a digit
@@ -25,12 +24,11 @@ newline = 10
 unfoldable pub field : ℕ → ℕ → List ℕ
 field n after = decimal n ++ (after ∷ [])
 
--- "ok " and "refused " in ASCII
 abbrev pub ok_text : List ℕ
-ok_text = 111 ∷ 107 ∷ space ∷ []
+ok_text = codes "ok "
 
 abbrev pub refused_text : List ℕ
-refused_text = 114 ∷ 101 ∷ 102 ∷ 117 ∷ 115 ∷ 101 ∷ 100 ∷ space ∷ []
+refused_text = codes "refused "
 
 -- `ok x y` or `refused r`
 unfoldable pub outcome : Answer → List ℕ
@@ -42,7 +40,3 @@ outcome a =
 -- record number, kind, outcome
 unfoldable pub line_of : ℕ → ℕ → Answer → List ℕ
 line_of number kind answer = field number space ++ (field kind space ++ outcome answer)
-
--- text written into a buffer from place `at` on: the place behind it, and the buffer
-unfoldable pub written : List ℕ → ℕ → List ℕ → ℕ × List ℕ
-written out at text = (at + length text, sets out at text)

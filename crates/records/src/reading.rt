@@ -1,23 +1,25 @@
 // The numbers of a record.
-ghost use Rattle.std.specs.Prelude.{◌≡◌, ◌+◌, ◌<◌, ◌≤◌, length, get_or};
-ghost use Rattle.records.specs.Reading.{little_endian_at, kind_of};
+ghost use Rattle.std.specs.Prelude.{◌≡◌, ◌+◌, ◌<◌, ◌≤◌, length};
+ghost use Rattle.records.specs.Reading.{byte_at, little_endian_at, kind_of};
 
 pub fn byte_at(bytes: &[u8], i: usize) -> u32
     requires { i < length bytes.now }
-    ensures { result ≡ get_or bytes.now i 0 }
+    ensures { result ≡ byte_at bytes.now i }
 {
-    bytes[i] as u32
+    u32::from(bytes[i])
 }
 
-pub fn little_endian(bytes: &[u8], i: usize) -> u32
+#[tactic(auto, unfolding(crate::specs::Reading::little_endian_at))]
+pub fn little_endian(bytes: &[u8], i: usize) -> u16
     requires { i + 2 ≤ length bytes.now }
-    ensures { (result ≡ little_endian_at bytes.now i) × (result < 65536) }
+    ensures { result ≡ little_endian_at bytes.now i }
 {
-    (bytes[i] as u32) + (bytes[i + 1] as u32) * 256
+    u16::from_le_bytes([bytes[i], bytes[i + 1]])
 }
 
 // The kind of a whole record, its length left away.
-pub fn kind_of(bytes: &[u8]) -> u32
+#[tactic(auto, unfolding(crate::specs::Reading::kind_of))]
+pub fn kind_of(bytes: &[u8]) -> u16
     requires { 2 ≤ length bytes.now }
     ensures { result ≡ kind_of bytes.now }
 {

@@ -2,7 +2,7 @@
 use Prim.Native.Nat.{ℕ, zero, suc, ◌+◌}
 use mathlib.Core.Path.{◌≡◌, refl, sym, ap, ◌∙◌, subst}
 use mathlib.Core.Bool.{true, false, false≢true}
-use mathlib.Core.Option.{Option, none, some}
+use Rattle.std.specs.Prelude.{Option, None as none, Some as some}
 use native.Mathlib.Omega.{arith}
 use Rattle.rules.specs.Tables.{at, nowhere, find_in, place_by, place_in, put_at, set_in, remove_found, remove_in}
 use Rattle.rules.specs.Addresses.{Entry, Table, address_keys, find, empty_for, with_mark, LookUp, group, unknown, found, answered, look_up, hit_marks, after_look_up, Learning, stays, no_place, takes, learning_by, learning_of, is_no_place, learned_entry, learn_by, learn, older, aged, goes, removed, static_entry, set_static, is_full, no_place_for, remove, Sound}

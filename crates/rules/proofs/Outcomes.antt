@@ -7,7 +7,7 @@ use Rattle.rules.specs.Facts.{Facts}
 use Rattle.rules.specs.Outcomes.{outcome_by, outcome_of, learns, learning_for, table_after, is_not_learned, frame_of}
 use Rattle.rules.specs.PortTests.{ports_left}
 use Rattle.rules.specs.Reasons.{Reason}
-use mathlib.Core.Option.{Option}
+use Rattle.std.specs.Prelude.{Option}
 use Rattle.rules.specs.OutcomeTheorems.{OutcomeTheorems}
 use Rattle.rules.proofs.Choice.{and_left, and_right}
 use Rattle.rules.proofs.Addresses.{no_place_only, no_place_then}

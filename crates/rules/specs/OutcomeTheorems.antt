@@ -1,7 +1,7 @@
 -- What a frame's facts come to: its outcome, and the address table that it leaves. `proofs/Outcomes.antt` proves it.
 -- Assumes nothing: these are definitions.
 use Rattle.std.specs.Prelude.{◌≡◌, ◌↔◌, true, false}
-use Rattle.std.proofs.Math.Option.{none, some}
+use Rattle.std.specs.Prelude.{None as none, Some as some}
 use Rattle.rules.specs.Tables.{nowhere}
 use Rattle.rules.specs.Addresses.{Table, find, empty_for, after_look_up, learn}
 use Rattle.rules.specs.Reasons.{Reason}

@@ -2,7 +2,7 @@
 -- table.
 -- Assumes nothing: these are definitions.
 use Rattle.std.specs.Prelude.{ℕ, Bool, ◌&&◌, not, List, if◌then◌else◌}
-use Rattle.std.proofs.Math.Option.{Option, none, some}
+use Rattle.std.specs.Prelude.{Option, None as none, Some as some}
 use Rattle.rules.specs.Operations.{Operation, Origin}
 use Rattle.rules.specs.Settings.{no_operation}
 use Rattle.rules.specs.Addresses.{Table, Learning, after_look_up, learning_of, is_no_place, learn_by}

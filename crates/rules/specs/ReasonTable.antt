@@ -1,7 +1,7 @@
 -- "What happens to a frame, in order": the table of the thirteen reasons with their conditions. It is the definition of
 -- a frame's outcome, and of how far a frame came. Assumes nothing: these are definitions.
 use Rattle.std.specs.Prelude.{ℕ, Bool, true, not, ◌&&◌, List, [], ◌∷◌, map, eqb, leb, ltb, length}
-use Rattle.std.proofs.Math.Option.{Option}
+use Rattle.std.specs.Prelude.{Option}
 use Rattle.rules.specs.Choice.{sift, is_nothing, is_empty}
 use Rattle.rules.specs.Lines.{Line, line, first}
 use Rattle.rules.specs.Numbers.{barred_vid}

@@ -2,7 +2,7 @@
 -- `proofs/Tables.antt` proves it.
 -- Assumes nothing: these are definitions.
 use Rattle.std.specs.Prelude.{ℕ, ◌≡◌, true, List, ◌∷◌, ◌++◌}
-use Rattle.std.proofs.Math.Option.{none, some}
+use Rattle.std.specs.Prelude.{None as none, Some as some}
 use Rattle.rules.specs.Choice.{among, Each}
 use Rattle.rules.specs.Tables.{Keyed, TableOf, at, nowhere, find_in, empty_in, place_in, set_in, remove_in, Sound}
 

@@ -3,7 +3,7 @@
 -- the same laws.
 -- A table is a function of the place, so that a change is of one place. Assumes nothing: these are definitions.
 use Rattle.std.specs.Prelude.{ℕ, ◌≡◌, Bool, true, false, List, [], ◌∷◌, eqb, if◌then◌else◌}
-use Rattle.std.proofs.Math.Option.{Option, none, some}
+use Rattle.std.specs.Prelude.{Option, None as none, Some as some}
 use Rattle.rules.specs.Choice.{among, changed}
 
 -- what a kind of table is: the key of an entry, and the places of a key in the order of the search

@@ -1,2 +1,0 @@
-pub mod WordEnds
-pub mod VlanEnds

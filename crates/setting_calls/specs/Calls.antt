@@ -4,7 +4,8 @@
 -- Assumes nothing: these are definitions.
 use Rattle.std.specs.Prelude.{ℕ, not, List, [], ◌∷◌, ◌++◌, get_or, set}
 use Rattle.rules.specs.Lines.{Line, first}
-use Rattle.rules.specs.Refusals.{Refusal, Lines, counter_lines, port_lines, map_lines, queue_switch_lines, bpdu_lines}
+use Rattle.rules.specs.Refusals.{Lines, counter_lines, port_lines, map_lines, queue_switch_lines, bpdu_lines}
+use Rattle.rules.specs.declared.refusals.Refusal.{Refusal}
 use Rattle.rules.specs.Arguments.{PortNumbers, flag}
 use Rattle.layout.specs.Places.{map_word, switches_word, counter_word}
 use Rattle.layout.specs.declared.answers.Answer.{Answer}
@@ -85,20 +86,3 @@ bpdu_refusals links on = length_line (links_fit links) ∷ bpdu_lines on ++ (map
 
 unfoldable pub bpdu_call : List ℕ → ℕ → Answer × List ℕ
 bpdu_call links on = or_refused (first (bpdu_refusals links on)) links (done_with 0 0, bpdu_written links on)
-
--- ---- what is left of a call once its numbers are good: the word that it meets, then its write
-
-abbrev pub met_by : Line Refusal → List ℕ → List ℕ → Answer × List ℕ
-met_by damage links written = or_refused (first (damage ∷ [])) links (done_with 0 0, written)
-
-abbrev pub port_met : List ℕ → ℕ → PortNumbers → Answer × List ℕ
-port_met links port new = met_by (states_line links) links (port_written links port new)
-
-abbrev pub queue_met : List ℕ → ℕ → ℕ → Answer × List ℕ
-queue_met links pcp queue = met_by (map_line links) links (queue_written links pcp queue)
-
-abbrev pub switch_met : List ℕ → ℕ → ℕ → ℕ → Answer × List ℕ
-switch_met links port queue on = met_by (switches_line links) links (switch_written links port queue on)
-
-abbrev pub bpdu_met : List ℕ → ℕ → Answer × List ℕ
-bpdu_met links on = met_by (map_line links) links (bpdu_written links on)

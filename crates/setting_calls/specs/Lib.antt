@@ -1,3 +1,2 @@
 pub mod Calls
 pub mod Vlans
-pub mod Placed

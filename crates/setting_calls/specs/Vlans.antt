@@ -1,6 +1,7 @@
 -- The calls on the VLAN table. They meet the VLANs in use and the VIDs of the entries from 0 on to the one of the VID.
 -- Assumes nothing: these are definitions.
 use Rattle.std.specs.Prelude.{ℕ, Bool, true, false, ◌&&◌, not, List, [], ◌∷◌, ◌++◌, leb}
+use Rattle.std.specs.Prelude.{None as none, Some as some, Ok, Err}
 use Rattle.std.proofs.lemmas.List.Edits.{sets}
 use Rattle.rules.specs.Lines.{first}
 use Rattle.rules.specs.Refusals.{Lines, vlan_lines, clear_vlan_lines}
@@ -9,23 +10,21 @@ use Rattle.layout.specs.Places.{vlan_word}
 use Rattle.layout.specs.declared.answers.Answer.{Answer}
 use Rattle.layout.specs.Lengths.{links_fit}
 use Rattle.layout.specs.Answers.{done_with, length_line, damage_line, or_refused}
-use Rattle.settings.specs.declared.table.Found.{Found}
-use Rattle.settings.specs.declared.table.Found.TheVariants.{At, Nowhere, Damaged}
 use Rattle.settings.specs.Records.{vlan_words}
-use Rattle.settings.specs.Table.{vlan_count, found_vlan, added_vlan, cleared_vlan}
+use Rattle.settings.specs.Table.{Found, vlan_count, found_vlan, added_vlan, cleared_vlan}
 
 -- ---- what a search says
 
 -- one that met damage does not say that the VID is missing: the refusal is 10, not 6 or 7
 abbrev pub there : Found → Bool
-there (At entry) = true
-there Nowhere = false
-there Damaged = true
+there (Ok (some entry)) = true
+there (Ok none) = false
+there (Err damage) = true
 
 abbrev pub damaged : Found → Bool
-damaged (At entry) = false
-damaged Nowhere = false
-damaged Damaged = true
+damaged (Ok (some entry)) = false
+damaged (Ok none) = false
+damaged (Err damage) = true
 
 -- "the VID is new and 16 are in use"
 abbrev pub no_entry_left : Found → List ℕ → Bool
@@ -34,9 +33,9 @@ no_entry_left found links = not (there found) && leb 16 (vlan_count links)
 -- ---- VLAN: "setting a VID that is there replaces its entry", "a new VID takes the next entry"
 
 unfoldable pub vlan_written : Found → List ℕ → VlanNumbers → List ℕ
-vlan_written (At entry) links new = sets links (vlan_word entry) (vlan_words new)
-vlan_written Nowhere links new = added_vlan links new
-vlan_written Damaged links new = links
+vlan_written (Ok (some entry)) links new = sets links (vlan_word entry) (vlan_words new)
+vlan_written (Ok none) links new = added_vlan links new
+vlan_written (Err damage) links new = links
 
 unfoldable pub vlan_refusals : List ℕ → VlanNumbers → Lines
 vlan_refusals links new =
@@ -51,9 +50,9 @@ vlan_call links new =
 -- ---- clear VLAN
 
 unfoldable pub vlan_erased : Found → List ℕ → List ℕ
-vlan_erased (At entry) links = cleared_vlan links entry
-vlan_erased Nowhere links = links
-vlan_erased Damaged links = links
+vlan_erased (Ok (some entry)) links = cleared_vlan links entry
+vlan_erased (Ok none) links = links
+vlan_erased (Err damage) links = links
 
 unfoldable pub clear_vlan_refusals : List ℕ → ℕ → Lines
 clear_vlan_refusals links vid =

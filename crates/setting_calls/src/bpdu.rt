@@ -1,34 +1,21 @@
 // The call on BPDU handling.
-ghost use Rattle.std.specs.Prelude.{◌≡◌, ◌≤◌, length};
-ghost use Rattle.layout.specs.Places.{fixed_words};
-ghost use Rattle.setting_calls.specs.Calls.{bpdu_call, bpdu_met};
+ghost use Rattle.std.specs.Prelude.{◌≡◌};
+ghost use Rattle.layout.specs.Answers.{answered};
+ghost use Rattle.setting_calls.specs.Calls.{bpdu_call};
 
 use layout::MAP;
-use layout::answers::{Answer, done, refused};
+use layout::answers::{Done, must};
 use layout::lengths::links_fit;
-use layout::refusals::{MEMORY_DAMAGED, MEMORY_LENGTH, OUT_OF_RANGE};
-use settings::map::{is_map_word, with_bpdu};
+use rules::refusals::Refusal;
+use settings::map::MapWord;
 
-fn switch_bpdu(links: &mut [u32], on: u32) -> Answer
-    requires { fixed_words ≤ length links.old }
-    ensures { (result, links.new) ≡ bpdu_met links.old on }
+#[tactic(auto, using(layout::proofs::Fits::fixed_part), unfolding(crate::specs::Calls::bpdu_call, crate::specs::Calls::bpdu_refusals, crate::specs::Calls::bpdu_written, rules::specs::Lines::first, rules::specs::Refusals::bpdu_lines, rules::specs::Arguments::flag))]
+pub fn bpdu(links: &mut [u32], on: u32) -> Result<Done, Refusal>
+    ensures { (answered result, links.new) ≡ bpdu_call links.old on }
 {
-    let word = links[MAP];
-    if is_map_word(word) {
-        links[MAP] = with_bpdu(word, on == 1);
-        return done(0, 0);
-    }
-    refused(MEMORY_DAMAGED)
-}
-
-pub fn bpdu(links: &mut [u32], on: u32) -> Answer
-    ensures { (result, links.new) ≡ bpdu_call links.old on }
-{
-    if links_fit(links) {
-        if on > 1 {
-            return refused(OUT_OF_RANGE);
-        }
-        return switch_bpdu(links, on);
-    }
-    refused(MEMORY_LENGTH)
+    must(links_fit(links), Refusal::MemoryLength)?;
+    must(on <= 1, Refusal::OutOfRange)?;
+    let map = MapWord::try_from(links[MAP])?;
+    links[MAP] = map.with_bpdu(on == 1);
+    Ok(Done { x: 0, y: 0 })
 }

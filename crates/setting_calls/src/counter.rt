@@ -1,25 +1,22 @@
 // The call on a counter.
 ghost use Rattle.std.specs.Prelude.{◌≡◌};
+ghost use Rattle.layout.specs.Answers.{answered};
 ghost use Rattle.setting_calls.specs.Calls.{counter_call};
 
-use layout::answers::{Answer, done, refused};
+use layout::answers::{Done, must};
 use layout::lengths::links_fit;
-use layout::numbers::{LAST_COUNTER, LAST_PORT};
-use layout::refusals::{MEMORY_LENGTH, OUT_OF_RANGE, PORT_ABOVE_FOUR};
+use layout::numbers::LAST_COUNTER;
+use layout::ports::Port;
+use rules::refusals::Refusal;
 
 // x: the counter's value.
-pub fn counter(links: &[u32], port: u32, number: u32) -> Answer
-    ensures { (result, links.now) ≡ counter_call links.now port number }
+#[tactic(auto, using(layout::proofs::Fits::fixed_part), unfolding(crate::specs::Calls::counter_call, crate::specs::Calls::counter_refusals, rules::specs::Lines::first, rules::specs::Refusals::counter_lines))]
+pub fn counter(links: &[u32], port: u32, number: u32) -> Result<Done, Refusal>
+    ensures { (answered result, links.now) ≡ counter_call links.now port number }
 {
-    if links_fit(links) {
-        if port > LAST_PORT {
-            return refused(PORT_ABOVE_FOUR);
-        }
-        if number > LAST_COUNTER {
-            return refused(OUT_OF_RANGE);
-        }
-        let value = layout::counter::counter(links, port as usize, number as usize);
-        return done(value, 0);
-    }
-    refused(MEMORY_LENGTH)
+    must(links_fit(links), Refusal::MemoryLength)?;
+    let port = Port::try_from(port)?;
+    must(number <= LAST_COUNTER, Refusal::OutOfRange)?;
+    let x = layout::counter::counter(links, port, number as usize);
+    Ok(Done { x, y: 0 })
 }

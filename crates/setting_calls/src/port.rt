@@ -1,41 +1,26 @@
 // The call on a port's settings.
-ghost use Rattle.std.specs.Prelude.{◌≡◌, ◌<◌, ◌≤◌, length};
-ghost use Rattle.layout.specs.Places.{fixed_words};
-ghost use Rattle.settings.specs.Ranges.{PortRange};
+ghost use Rattle.std.specs.Prelude.{◌≡◌};
+ghost use Rattle.layout.specs.Answers.{answered};
 ghost use Rattle.settings.specs.Ports.{port_is};
-ghost use Rattle.setting_calls.specs.Calls.{port_call, port_met};
+ghost use Rattle.setting_calls.specs.Calls.{port_call};
 
 use layout::STATES;
-use layout::answers::{Answer, done, refused};
+use layout::answers::{Done, must};
 use layout::lengths::links_fit;
-use layout::numbers::LAST_PORT;
-use layout::refusals::{MEMORY_DAMAGED, MEMORY_LENGTH, OUT_OF_RANGE, PORT_ABOVE_FOUR};
-use settings::port::{PortSettings, port_in_range};
+use layout::ports::Port;
+use rules::refusals::Refusal;
+use settings::port::{CheckedPort, PortSettings};
 use settings::port_words::write_port;
-use settings::states::is_states_word;
+use settings::states::StatesWord;
 
-fn place_port(links: &mut [u32], port: u32, settings: PortSettings) -> Answer
-    requires { (fixed_words ≤ length links.old) × (port < 5) × PortRange (port_is settings) }
-    ensures { (result, links.new) ≡ port_met links.old port (port_is settings) }
+#[tactic(auto, using(layout::proofs::Fits::fixed_part), unfolding(crate::specs::Calls::port_call, crate::specs::Calls::port_refusals, rules::specs::Lines::first, rules::specs::Refusals::port_lines))]
+pub fn set_port(links: &mut [u32], port: u32, settings: PortSettings) -> Result<Done, Refusal>
+    ensures { (answered result, links.new) ≡ port_call links.old port (port_is settings) }
 {
-    if is_states_word(links[STATES]) {
-        write_port(links, port as usize, settings);
-        return done(0, 0);
-    }
-    refused(MEMORY_DAMAGED)
-}
-
-pub fn set_port(links: &mut [u32], port: u32, settings: PortSettings) -> Answer
-    ensures { (result, links.new) ≡ port_call links.old port (port_is settings) }
-{
-    if links_fit(links) {
-        if port > LAST_PORT {
-            return refused(PORT_ABOVE_FOUR);
-        }
-        if port_in_range(settings) {
-            return place_port(links, port, settings);
-        }
-        return refused(OUT_OF_RANGE);
-    }
-    refused(MEMORY_LENGTH)
+    must(links_fit(links), Refusal::MemoryLength)?;
+    let port = Port::try_from(port)?;
+    let settings = CheckedPort::try_from(settings)?;
+    let states = StatesWord::try_from(links[STATES])?;
+    write_port(links, states, port, settings);
+    Ok(Done { x: 0, y: 0 })
 }

@@ -1,70 +1,39 @@
 // The calls on the queue map and the queue switches.
-ghost use Rattle.std.specs.Prelude.{◌≡◌, ◌<◌, ◌≤◌, length};
-ghost use Rattle.layout.specs.Places.{fixed_words};
-ghost use Rattle.setting_calls.specs.Calls.{map_call, queue_switch_call, queue_met, switch_met};
+ghost use Rattle.std.specs.Prelude.{◌≡◌};
+ghost use Rattle.layout.specs.Answers.{answered};
+ghost use Rattle.setting_calls.specs.Calls.{map_call, queue_switch_call};
 
-use layout::answers::{Answer, done, refused};
+use layout::answers::{Done, must};
 use layout::lengths::links_fit;
-use layout::numbers::{LAST_PCP, LAST_PORT, LAST_QUEUE};
-use layout::refusals::{MEMORY_DAMAGED, MEMORY_LENGTH, OUT_OF_RANGE, PORT_ABOVE_FOUR};
+use layout::numbers::LAST_PCP;
+use layout::ports::{Port, Queue};
 use layout::{MAP, SWITCHES};
-use settings::map::{is_map_word, with_queue};
-use settings::switches::{is_switches_word, with_switch};
-
-fn place_queue(links: &mut [u32], pcp: u32, queue: u32) -> Answer
-    requires { (fixed_words ≤ length links.old) × (pcp < 8) }
-    ensures { (result, links.new) ≡ queue_met links.old pcp queue }
-{
-    let word = links[MAP];
-    if is_map_word(word) {
-        links[MAP] = with_queue(word, pcp, queue);
-        return done(0, 0);
-    }
-    refused(MEMORY_DAMAGED)
-}
+use rules::refusals::Refusal;
+use settings::map::MapWord;
+use settings::switches::SwitchesWord;
 
 // The queue of a PCP.
-pub fn map(links: &mut [u32], pcp: u32, queue: u32) -> Answer
-    ensures { (result, links.new) ≡ map_call links.old pcp queue }
+#[tactic(auto, using(layout::proofs::Fits::fixed_part), unfolding(crate::specs::Calls::map_call, crate::specs::Calls::map_refusals, crate::specs::Calls::queue_written, rules::specs::Lines::first, rules::specs::Refusals::map_lines))]
+pub fn map(links: &mut [u32], pcp: u32, queue: u32) -> Result<Done, Refusal>
+    ensures { (answered result, links.new) ≡ map_call links.old pcp queue }
 {
-    if links_fit(links) {
-        if pcp > LAST_PCP {
-            return refused(OUT_OF_RANGE);
-        }
-        if queue > LAST_QUEUE {
-            return refused(OUT_OF_RANGE);
-        }
-        return place_queue(links, pcp, queue);
-    }
-    refused(MEMORY_LENGTH)
+    must(links_fit(links), Refusal::MemoryLength)?;
+    must(pcp <= LAST_PCP, Refusal::OutOfRange)?;
+    let queue = Queue::try_from(queue)?;
+    let map = MapWord::try_from(links[MAP])?;
+    links[MAP] = map.with_queue(pcp, queue);
+    Ok(Done { x: 0, y: 0 })
 }
 
-fn switch_queue(links: &mut [u32], port: u32, queue: u32, on: u32) -> Answer
-    requires { (fixed_words ≤ length links.old) × (port < 5) × (queue < 4) }
-    ensures { (result, links.new) ≡ switch_met links.old port queue on }
+#[tactic(auto, using(layout::proofs::Fits::fixed_part), unfolding(crate::specs::Calls::queue_switch_call, crate::specs::Calls::queue_switch_refusals, crate::specs::Calls::switch_written, rules::specs::Lines::first, rules::specs::Refusals::queue_switch_lines, rules::specs::Arguments::flag))]
+pub fn queue_switch(links: &mut [u32], port: u32, queue: u32, on: u32) -> Result<Done, Refusal>
+    ensures { (answered result, links.new) ≡ queue_switch_call links.old port queue on }
 {
-    let word = links[SWITCHES];
-    if is_switches_word(word) {
-        links[SWITCHES] = with_switch(word, port, queue, on == 1);
-        return done(0, 0);
-    }
-    refused(MEMORY_DAMAGED)
-}
-
-pub fn queue_switch(links: &mut [u32], port: u32, queue: u32, on: u32) -> Answer
-    ensures { (result, links.new) ≡ queue_switch_call links.old port queue on }
-{
-    if links_fit(links) {
-        if port > LAST_PORT {
-            return refused(PORT_ABOVE_FOUR);
-        }
-        if queue > LAST_QUEUE {
-            return refused(OUT_OF_RANGE);
-        }
-        if on > 1 {
-            return refused(OUT_OF_RANGE);
-        }
-        return switch_queue(links, port, queue, on);
-    }
-    refused(MEMORY_LENGTH)
+    must(links_fit(links), Refusal::MemoryLength)?;
+    let port = Port::try_from(port)?;
+    let queue = Queue::try_from(queue)?;
+    must(on <= 1, Refusal::OutOfRange)?;
+    let switches = SwitchesWord::try_from(links[SWITCHES])?;
+    links[SWITCHES] = switches.with_switch(port, queue, on == 1);
+    Ok(Done { x: 0, y: 0 })
 }

@@ -1,87 +1,43 @@
 // The calls on the VLAN table.
-ghost use Rattle.std.specs.Prelude.{◌≡◌, ◌≤◌, length};
-ghost use Rattle.rules.specs.Arguments.{is_vid};
-ghost use Rattle.layout.specs.Places.{fixed_words};
-ghost use Rattle.settings.specs.Ranges.{VlanRange};
+ghost use Rattle.std.specs.Prelude.{◌≡◌};
+ghost use Rattle.layout.specs.Answers.{answered};
 ghost use Rattle.settings.specs.Ports.{vlan_is};
 ghost use Rattle.setting_calls.specs.Vlans.{vlan_call, clear_vlan_call};
-ghost use Rattle.setting_calls.specs.Placed.{vlan_added, vlan_placed, vlan_cleared};
 
 use layout::VLAN_COUNT;
-use layout::answers::{Answer, done, refused};
+use layout::answers::{Done, must};
 use layout::lengths::links_fit;
-use layout::numbers::{LAST_VID, MOST_VLANS};
-use layout::refusals::{MEMORY_DAMAGED, MEMORY_LENGTH, OUT_OF_RANGE, VLAN_NOT_THERE, VLANS_IN_USE};
-use settings::table::{Found, add_vlan, find_vlan};
-use settings::vlan::{VlanSettings, vlan_in_range};
+use layout::numbers::MOST_VLANS;
+use rules::refusals::Refusal;
+use settings::port::is_vid;
+use settings::table::{add_vlan, find_vlan};
+use settings::vlan::{CheckedVlan, VlanSettings};
 use settings::vlan_words::write_vlan;
 
-fn add_entry(links: &mut [u32], settings: VlanSettings) -> Answer
-    requires { (fixed_words ≤ length links.old) × VlanRange (vlan_is settings) }
-    ensures { (result, links.new) ≡ vlan_added links.old (vlan_is settings) }
+// A VID that is there keeps its entry, and a new one takes the next.
+#[tactic(auto, using(layout::proofs::Fits::fixed_part, settings::proofs::FindLaws::found_there), unfolding(crate::specs::Vlans::vlan_call, crate::specs::Vlans::vlan_refusals, crate::specs::Vlans::vlan_written, rules::specs::Lines::first, rules::specs::Refusals::vlan_lines))]
+pub fn set_vlan(links: &mut [u32], settings: VlanSettings) -> Result<Done, Refusal>
+    ensures { (answered result, links.new) ≡ vlan_call links.old (vlan_is settings) }
 {
-    if links[VLAN_COUNT] < MOST_VLANS {
-        add_vlan(links, settings);
-        return done(0, 0);
-    }
-    refused(VLANS_IN_USE)
-}
-
-fn place_vlan(links: &mut [u32], settings: VlanSettings) -> Answer
-    requires { (fixed_words ≤ length links.old) × VlanRange (vlan_is settings) }
-    ensures { (result, links.new) ≡ vlan_placed links.old (vlan_is settings) }
-{
-    let vid = settings.vid;
-    match find_vlan(links, vid) {
-        Found::At(entry) => {
-            write_vlan(links, entry, settings);
-            done(0, 0)
+    must(links_fit(links), Refusal::MemoryLength)?;
+    let vlan = CheckedVlan::try_from(settings)?;
+    match find_vlan(links, settings.vid)? {
+        Some(entry) => write_vlan(links, entry, vlan),
+        None => {
+            must(links[VLAN_COUNT] < MOST_VLANS, Refusal::VlansInUse)?;
+            add_vlan(links, vlan);
         }
-        Found::Nowhere => add_entry(links, settings),
-        Found::Damaged => refused(MEMORY_DAMAGED),
     }
+    Ok(Done { x: 0, y: 0 })
 }
 
-pub fn set_vlan(links: &mut [u32], settings: VlanSettings) -> Answer
-    ensures { (result, links.new) ≡ vlan_call links.old (vlan_is settings) }
+#[tactic(auto, using(layout::proofs::Fits::fixed_part, settings::proofs::FindLaws::found_there), unfolding(crate::specs::Vlans::clear_vlan_call, crate::specs::Vlans::clear_vlan_refusals, crate::specs::Vlans::vlan_erased, rules::specs::Lines::first, rules::specs::Refusals::clear_vlan_lines))]
+pub fn clear_vlan(links: &mut [u32], vid: u32) -> Result<Done, Refusal>
+    ensures { (answered result, links.new) ≡ clear_vlan_call links.old vid }
 {
-    if links_fit(links) {
-        if vlan_in_range(settings) {
-            return place_vlan(links, settings);
-        }
-        return refused(OUT_OF_RANGE);
-    }
-    refused(MEMORY_LENGTH)
-}
-
-fn is_vid(vid: u32) -> bool
-    ensures { result ≡ is_vid vid }
-{
-    (1 <= vid) & (vid <= LAST_VID)
-}
-
-fn erase_vlan(links: &mut [u32], vid: u32) -> Answer
-    requires { fixed_words ≤ length links.old }
-    ensures { (result, links.new) ≡ vlan_cleared links.old vid }
-{
-    match find_vlan(links, vid) {
-        Found::At(entry) => {
-            settings::table::clear_vlan(links, entry);
-            done(0, 0)
-        }
-        Found::Nowhere => refused(VLAN_NOT_THERE),
-        Found::Damaged => refused(MEMORY_DAMAGED),
-    }
-}
-
-pub fn clear_vlan(links: &mut [u32], vid: u32) -> Answer
-    ensures { (result, links.new) ≡ clear_vlan_call links.old vid }
-{
-    if links_fit(links) {
-        if is_vid(vid) {
-            return erase_vlan(links, vid);
-        }
-        return refused(OUT_OF_RANGE);
-    }
-    refused(MEMORY_LENGTH)
+    must(links_fit(links), Refusal::MemoryLength)?;
+    must(is_vid(vid), Refusal::OutOfRange)?;
+    let entry = find_vlan(links, vid)?.ok_or(Refusal::VlanNotThere)?;
+    settings::table::clear_vlan(links, entry);
+    Ok(Done { x: 0, y: 0 })
 }

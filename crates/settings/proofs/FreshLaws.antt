@@ -1,18 +1,12 @@
 -- The words of a fresh switch: in range, and what they hold. Assumes nothing.
-use Prim.Native.Nat.{ℕ, ◌/◌, ◌<◌}
-use mathlib.Core.Path.{◌≡◌, refl, ◌∙◌}
-use mathlib.Core.Bool.{Bool, true, ◌&&◌, not}
-use native.Mathlib.Nat.{lt_of_le_of_lt}
-use native.Mathlib.Omega.{arith}
-use borrow.Author.Tests.{eqb-true, eq-eqb, not-true}
-use lib.Dec.{eqb, lit<}
-use lib.Bits.{bit_and, and_le_l}
+use Rattle.std.proofs.Common.{◌≡◌, ℕ, ◌+◌, ◌*◌, ◌/◌, ◌%◌, ◌<◌, Bool, true, ◌||◌, eqb, leb, refl, arith, eqb-true}
+use Rattle.std.proofs.lemmas.Bool.Decides.{nat_tests}
 use Rattle.rules.specs.Arguments.{OperationNumbers, bit}
-use Rattle.layout.proofs.BitLaws.{bit_and_law, zero_bits, five, all, each}
+use Rattle.layout.proofs.BitLaws.{five, all, each}
 use Rattle.settings.specs.Operations.{operation_in, is_operation_word}
 use Rattle.settings.specs.Ports.{port_in, vlan_in, is_vid_word}
 use Rattle.settings.specs.States.{state_in, state_number, is_states_word}
-use Rattle.settings.specs.Switches.{switch_in, is_switches_word, unused_switches}
+use Rattle.settings.specs.Switches.{switch_in, is_switches_word}
 use Rattle.settings.specs.Maps.{queue_in, bpdu_in, is_map_word}
 use Rattle.settings.specs.Fresh.{fresh_states, fresh_switches, fresh_map, fresh_port_word, fresh_vlan_word, fresh_operation_word}
 
@@ -20,25 +14,17 @@ pub fresh_states_law : (is_states_word fresh_states ≡ true) × ((p : ℕ) → 
 unfolding is_states_word state_in state_number bit
 fresh_states_law = (refl, five (λ p. state_in fresh_states p ≡ 0) refl refl refl refl refl)
 
-switch_test : ℕ → Bool
-switch_test i = not (bit fresh_switches i && bit unused_switches i)
-
 pub fresh_switches_good : is_switches_word fresh_switches ≡ true
-unfolding is_switches_word bit all switch_test
-fresh_switches_good =
-    eq-eqb _ 0
-    (zero_bits 32 (bit_and fresh_switches unused_switches) (lt_of_le_of_lt (and_le_l fresh_switches unused_switches) (lit< tt))
-    (λ i l. bit_and_law fresh_switches unused_switches i ∙ not-true _ (each 32 switch_test refl i l)))
+unfolding is_switches_word
+fresh_switches_good = refl
+
+-- every port's bit is on
+on_test : ℕ → Bool
+on_test i = leb 5 (i % 8) || bit fresh_switches i
 
 pub fresh_switches_law : (p q : ℕ) → p < 5 → q < 4 → switch_in fresh_switches p q ≡ true
-unfolding switch_in bit
-fresh_switches_law p q h k =
-    five (λ q. q < 4 → switch_in fresh_switches p q ≡ true)
-    (λ _. five (λ p. switch_in fresh_switches p 0 ≡ true) refl refl refl refl refl p h)
-    (λ _. five (λ p. switch_in fresh_switches p 1 ≡ true) refl refl refl refl refl p h)
-    (λ _. five (λ p. switch_in fresh_switches p 2 ≡ true) refl refl refl refl refl p h)
-    (λ _. five (λ p. switch_in fresh_switches p 3 ≡ true) refl refl refl refl refl p h)
-    (λ l. absurd (omega (arith, l))) q (omega arith) k
+unfolding switch_in bit all on_test
+fresh_switches_law p q h k = grind (arith, nat_tests, each 32 on_test refl (8 * q + p) (omega arith))
 
 queue_test : ℕ → Bool
 queue_test pcp = eqb (queue_in fresh_map pcp) (pcp / 2)

@@ -1,4 +1,3 @@
-pub mod Runs
 pub mod EntryWords
 pub mod CounterLaws
 pub mod FindLaws

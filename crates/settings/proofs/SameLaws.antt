@@ -1,20 +1,14 @@
 -- Settings and counters beside the rest of link memory: what a write of either leaves alone, and what leaves both alone. Assumes nothing.
-use Prim.Native.Nat.{ℕ, ◌+◌, ◌<◌, ◌≤◌}
-use mathlib.Core.Path.{◌≡◌}
-use mathlib.Core.List.{List}
-use native.Mathlib.Omega.{arith}
-use lib.ListN.{length}
-use lib.Seq.{sets}
+use Rattle.std.proofs.Common.{◌≡◌, ℕ, ◌+◌, ◌<◌, ◌≤◌, List, length, arith}
+use Rattle.std.proofs.lemmas.List.Edits.{sets}
 use Rattle.slices.proofs.Runs.{get_d_sets_before, get_d_sets_after}
 use Rattle.rules.specs.Arguments.{PortNumbers}
-use Rattle.layout.specs.Places.{fixed_words, free_count_word, first_free_word, next_word, frame_word, port_record, counter_word, port_word, port_operation_word}
-use Rattle.layout.specs.Places.{waiting_word, oldest_word, youngest_word, behind_word}
-use Rattle.layout.specs.Same.{SettingsSame, CellsSame, QueuesSame, Elsewhere}
-use Rattle.layout.proofs.Stores.{counter_elsewhere}
+use Rattle.layout.specs.Places.{fixed_words, free_count_word, first_free_word, port_record, counter_word, port_word, port_operation_word}
+use Rattle.layout.specs.Same.{SettingsSame, CellsSame, QueuesSame}
+use Rattle.layout.specs.Counters.{counter_at}
 use Rattle.settings.specs.Records.{port_written}
 use Rattle.settings.proofs.RecordLaws.{port_keeps}
 use Rattle.settings.proofs.SettingsAlike.{SettingWords}
-use Rattle.layout.specs.Counters.{counter_at}
 
 -- what a write of cells or queues leaves: the settings and the counters
 module _ {l m : List ℕ} (same : SettingsSame l m) where
@@ -35,54 +29,47 @@ module _ (l : List ℕ) (at : ℕ) (ws : List ℕ) where
   pub queues_kept : at + length ws ≤ port_record 0 → QueuesSame l (sets l at ws)
   queues_kept h =
       record {
-        waiting = λ p hp. get_d_sets_after l at ws (waiting_word p) 0 (omega arith);
-        oldest = λ p q hp hq. get_d_sets_after l at ws (oldest_word p q) 0 (omega arith);
-        youngest = λ p q hp hq. get_d_sets_after l at ws (youngest_word p q) 0 (omega arith);
-        behind = λ p c hp. get_d_sets_after l at ws (behind_word p c) 0 (omega arith);
+        waiting = λ p hp. grind (arith, get_d_sets_after {A = ℕ});
+        oldest = λ p q hp hq. grind (arith, get_d_sets_after {A = ℕ});
+        youngest = λ p q hp hq. grind (arith, get_d_sets_after {A = ℕ});
+        behind = λ p c hp. grind (arith, get_d_sets_after {A = ℕ});
       }
 
   -- a write that ends before the free cells' words, or starts behind them
   pub cells_kept_after : at + length ws ≤ free_count_word → CellsSame l (sets l at ws)
   cells_kept_after h =
       record {
-        free_count = get_d_sets_after l at ws free_count_word 0 (omega arith);
-        first_free = get_d_sets_after l at ws first_free_word 0 (omega arith);
-        next = λ c. get_d_sets_after l at ws (next_word c) 0 (omega arith);
-        frame = λ c. get_d_sets_after l at ws (frame_word c) 0 (omega arith);
+        free_count = grind (arith, get_d_sets_after {A = ℕ});
+        first_free = grind (arith, get_d_sets_after {A = ℕ});
+        next = λ c. grind (arith, get_d_sets_after {A = ℕ});
+        frame = λ c. grind (arith, get_d_sets_after {A = ℕ});
       }
 
   pub cells_kept_before : first_free_word < at → at + length ws ≤ fixed_words → CellsSame l (sets l at ws)
   cells_kept_before h k =
       record {
-        free_count = get_d_sets_before l at ws free_count_word 0 (omega arith);
-        first_free = get_d_sets_before l at ws first_free_word 0 (omega arith);
-        next = λ c. get_d_sets_after l at ws (next_word c) 0 (omega arith);
-        frame = λ c. get_d_sets_after l at ws (frame_word c) 0 (omega arith);
+        free_count = grind (arith, get_d_sets_before {A = ℕ});
+        first_free = grind (arith, get_d_sets_before {A = ℕ});
+        next = λ c. grind (arith, get_d_sets_after {A = ℕ});
+        frame = λ c. grind (arith, get_d_sets_after {A = ℕ});
       }
 
 -- a port's settings
 module _ (l : List ℕ) (p : ℕ) (n : PortNumbers) (h : p < 5) where
-  -- the port's own word and its operation's are no queue's
-  own : Elsewhere (counter_word p 32)
-  own = counter_elsewhere p 32 h (omega arith)
-
-  operation : Elsewhere (counter_word p 33)
-  operation = counter_elsewhere p 33 h (omega arith)
-
   pub port_keeps_queues : QueuesSame l (port_written l p n)
   port_keeps_queues =
       record {
-        waiting = λ r hr. port_keeps l p n (waiting_word r) (λ e. omega arith) (λ e. own.waiting r hr (omega arith)) (λ e. operation.waiting r hr (omega arith));
-        oldest = λ r q hr hq. port_keeps l p n (oldest_word r q) (λ e. omega arith) (λ e. own.oldest r q hr hq (omega arith)) (λ e. operation.oldest r q hr hq (omega arith));
-        youngest = λ r q hr hq. port_keeps l p n (youngest_word r q) (λ e. omega arith) (λ e. own.youngest r q hr hq (omega arith)) (λ e. operation.youngest r q hr hq (omega arith));
-        behind = λ r c hr. port_keeps l p n (behind_word r c) (λ e. omega arith) (λ e. omega arith) (λ e. omega arith);
+        waiting = λ r hr. grind (arith, port_keeps);
+        oldest = λ r q hr hq. grind (arith, port_keeps);
+        youngest = λ r q hr hq. grind (arith, port_keeps);
+        behind = λ r c hr. grind (arith, port_keeps);
       }
 
   pub port_keeps_cells : CellsSame l (port_written l p n)
   port_keeps_cells =
       record {
-        free_count = port_keeps l p n free_count_word (λ e. omega arith) (λ e. omega arith) (λ e. omega arith);
-        first_free = port_keeps l p n first_free_word (λ e. omega arith) (λ e. omega arith) (λ e. omega arith);
-        next = λ c. port_keeps l p n (next_word c) (λ e. omega arith) (λ e. omega arith) (λ e. omega arith);
-        frame = λ c. port_keeps l p n (frame_word c) (λ e. omega arith) (λ e. omega arith) (λ e. omega arith);
+        free_count = grind (arith, port_keeps);
+        first_free = grind (arith, port_keeps);
+        next = λ c. grind (arith, port_keeps);
+        frame = λ c. grind (arith, port_keeps);
       }

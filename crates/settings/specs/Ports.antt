@@ -21,6 +21,9 @@ vid_end = 2096640
 abbrev pub vid_in : ℕ → ℕ
 vid_in w = w / 512
 
+abbrev pub pcp_in : ℕ → ℕ
+pcp_in w = w / 64 % 8
+
 abbrev pub is_vid_word : ℕ → Bool
 is_vid_word w = leb vid_start w && ltb w vid_end
 

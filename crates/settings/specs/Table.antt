@@ -1,13 +1,13 @@
 -- The VLAN table in link memory: searching it, adding an entry and clearing one. Assumes nothing: these are
 -- definitions.
 use Rattle.std.specs.Prelude.{ℕ, zero, suc, ◌+◌, ◌-◌, ◌*◌, List, ◌++◌, eqb, leb, get_or, set, take, drop, replicate, if◌then◌else◌}
+use Rattle.std.specs.Prelude.{Option, None as none, Some as some, Result, Ok, Err}
 use Rattle.std.proofs.lemmas.List.Edits.{sets}
 use Rattle.rules.specs.Arguments.{VlanNumbers}
 use Rattle.layout.specs.Places.{vlan_count_word, vlan_word}
 use Rattle.settings.specs.Ports.{is_vid_word, vid_in}
 use Rattle.settings.specs.Records.{vlan_words}
-use Rattle.settings.specs.declared.table.Found.{Found}
-use Rattle.settings.specs.declared.table.Found.TheVariants.{At, Nowhere, Damaged}
+use Rattle.layout.specs.declared.damage.Damaged.{Damaged}
 
 abbrev pub vlan_count : List ℕ → ℕ
 vlan_count links = get_or links vlan_count_word 0
@@ -19,16 +19,20 @@ entry_at links entry = get_or links (vlan_word entry) 0
 abbrev pub vid_at : List ℕ → ℕ → ℕ
 vid_at links entry = vid_in (entry_at links entry)
 
+-- what a search says: an entry, that there is none, or damage on the way
+abbrev pub Found : Type 0
+Found = Result (Option ℕ) Damaged
+
 -- the search through the entries left, from one on: a word out of range ends it, and so does the first match
 unfoldable pub find_from : ℕ → List ℕ → ℕ → ℕ → Found
-find_from zero links entry vid = Nowhere
+find_from zero links entry vid = Ok none
 find_from (suc left) links entry vid =
     if is_vid_word (entry_at links entry)
-    then (if eqb (vid_at links entry) vid then At entry else find_from left links (entry + 1) vid)
-    else Damaged
+    then (if eqb (vid_at links entry) vid then Ok (some entry) else find_from left links (entry + 1) vid)
+    else Err (record {})
 
 unfoldable pub found_vlan : List ℕ → ℕ → Found
-found_vlan links vid = if leb (vlan_count links) 16 then find_from (vlan_count links) links 0 vid else Damaged
+found_vlan links vid = if leb (vlan_count links) 16 then find_from (vlan_count links) links 0 vid else Err (record {})
 
 -- "a new VID takes the next entry"
 unfoldable pub added_vlan : List ℕ → VlanNumbers → List ℕ

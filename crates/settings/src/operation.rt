@@ -1,13 +1,13 @@
 // A tag operation in one word.
-ghost use Rattle.std.specs.Prelude.{◌≡◌, ◌<◌};
+ghost use Rattle.std.specs.Prelude.{◌≡◌, true, false, MatchResult};
 ghost use Rattle.rules.specs.Tags.{header_of};
 ghost use Rattle.settings.specs.Ranges.{OperationRange};
 ghost use Rattle.rules.specs.Arguments.{operation_of, operation_in_range};
-ghost use Rattle.settings.specs.Operations.{operation_is, operation_word, operation_in, operation_end};
-ghost use Rattle.settings.specs.Operations.{is_operation_word};
-ghost use Rattle.settings.specs.Operations.{is_stored_word, is_exempt};
+ghost use Rattle.settings.specs.Operations.{operation_is, operation_word, operation_in};
+ghost use Rattle.settings.specs.Operations.{is_operation_word, is_stored_word, is_exempt};
 
-use layout::numbers::LAST_VID;
+use layout::damage::Damaged;
+use layout::numbers::{LAST_PCP, LAST_VID};
 
 #[derive(Clone, Copy)]
 pub struct OperationSettings {
@@ -20,17 +20,33 @@ pub struct OperationSettings {
     pub dei: u32,
 }
 
-// "An operation's fields are checked for each kind, none included."
-pub fn operation_in_range(operation: OperationSettings) -> bool
-    ensures { result ≡ operation_in_range (operation_is operation) }
-{
-    (operation.kind <= 4)
-        & (operation.tag_type <= 1)
-        & (operation.vid_source <= 2)
-        & (operation.pcp_source <= 2)
-        & (operation.vid <= LAST_VID)
-        & (operation.pcp <= 7)
-        & (operation.dei <= 1)
+impl OperationSettings {
+    // "An operation's fields are checked for each kind, none included."
+    #[tactic(auto, unfolding(rules::specs::Arguments::operation_in_range))]
+    pub fn in_range(self) -> bool
+        ensures { result ≡ operation_in_range (operation_is self) }
+    {
+        (self.kind <= 4)
+            & (self.tag_type <= 1)
+            & (self.vid_source <= 2)
+            & (self.pcp_source <= 2)
+            & (self.vid <= LAST_VID)
+            & (self.pcp <= LAST_PCP)
+            & (self.dei <= 1)
+    }
+
+    pub fn pack(self) -> u32
+        requires { OperationRange (operation_is self) }
+        ensures { result ≡ operation_word (operation_is self) }
+    {
+        self.kind
+            + self.tag_type * TYPE
+            + self.vid_source * VID_SOURCE
+            + self.pcp_source * PCP_SOURCE
+            + self.dei * DEI
+            + self.pcp * PCP
+            + self.vid * VID
+    }
 }
 
 // What a unit of each field is worth; the kind stands below the type.
@@ -48,10 +64,34 @@ const VID: u32 = 4096;
 
 const END: u32 = 4095 * VID;
 
-pub fn is_operation_word(word: u32) -> bool
-    ensures { result ≡ is_operation_word word }
-{
-    word < END
+#[derive(Clone, Copy)]
+pub struct OperationWord {
+    pub word: u32,
+    pub ghost in_range: { is_operation_word word ≡ true },
+}
+
+impl TryFrom<u32> for OperationWord {
+    type Error = Damaged;
+
+    ghost try_from_gives = { λ number made. MatchResult made (λ operation. operation.word ≡ number) (λ _. is_operation_word number ≡ false) };
+
+    fn try_from(word: u32) -> Result<OperationWord, Damaged> {
+        if word < END {
+            return Ok(OperationWord { word });
+        }
+        Err(Damaged)
+    }
+}
+
+impl OperationWord {
+    // The given PCP, DEI and VID as a tag has them.
+    #[inline(always)]
+    #[tactic(auto, using(crate::proofs::OperationLaws::given_in))]
+    pub fn given_header(self) -> u16
+        ensures { header_of result ≡ (operation_of (operation_in self.word)).header }
+    {
+        (self.word / DEI % 16 * 4096 + self.word / VID) as u16
+    }
 }
 
 // In a stored header: a frame on which no operation acts.
@@ -67,25 +107,4 @@ pub fn is_exempt(word: u32) -> bool
     ensures { result ≡ is_exempt word }
 {
     word == EXEMPT
-}
-
-pub fn pack_operation(o: OperationSettings) -> u32
-    requires { OperationRange (operation_is o) }
-    ensures { result ≡ operation_word (operation_is o) }
-{
-    o.kind
-        + o.tag_type * TYPE
-        + o.vid_source * VID_SOURCE
-        + o.pcp_source * PCP_SOURCE
-        + o.dei * DEI
-        + o.pcp * PCP
-        + o.vid * VID
-}
-
-// The given PCP, DEI and VID as a tag has them.
-pub fn given_header(word: u32) -> u16
-    requires { word < operation_end }
-    ensures { header_of result ≡ (operation_of (operation_in word)).header }
-{
-    (word / DEI % 16 * 4096 + word / VID) as u16
 }

@@ -1,20 +1,32 @@
 // A port's settings in link memory: its state in the states' word, its own word and its operation's.
-ghost use Rattle.std.specs.Prelude.{◌≡◌, ◌<◌, ◌≤◌, length};
-ghost use Rattle.layout.specs.Places.{fixed_words};
-ghost use Rattle.settings.specs.Ranges.{PortRange};
+ghost use Rattle.std.specs.Prelude.{◌≡◌, ◌≤◌, length};
+ghost use Rattle.std.proofs.lemmas.List.Edits.{sets};
+ghost use Rattle.layout.specs.Places.{fixed_words, port_word};
 ghost use Rattle.settings.specs.Ports.{port_is};
-ghost use Rattle.settings.specs.Records.{port_written};
+ghost use Rattle.settings.specs.Records.{states_at, port_words, port_written};
 
-use crate::operation::pack_operation;
-use crate::port::{PortSettings, pack_port};
-use crate::states::with_state;
+use crate::port::CheckedPort;
+use crate::states::StatesWord;
+use layout::ports::Port;
 use layout::{PORT, PORT_OPERATION, PORT_STRIDE, STATES};
+use rules::states::PortState;
 
-pub fn write_port(links: &mut [u32], port: usize, settings: PortSettings)
-    requires { (port < 5) × (fixed_words ≤ length links.old) × PortRange (port_is settings) }
-    ensures { links.new ≡ port_written links.old port (port_is settings) }
+// All but the state.
+pub fn write_words(links: &mut [u32], port: Port, settings: CheckedPort)
+    requires { fixed_words ≤ length links.old }
+    ensures { links.new ≡ sets links.old (port_word port.number) (port_words (port_is settings.settings)) }
 {
-    links[STATES] = with_state(links[STATES], port as u32, settings.state);
-    links[PORT + PORT_STRIDE * port] = pack_port(settings);
-    links[PORT_OPERATION + PORT_STRIDE * port] = pack_operation(settings.operation);
+    links[PORT + PORT_STRIDE * port.index()] = settings.word();
+    links[PORT_OPERATION + PORT_STRIDE * port.index()] = settings.operation_word();
+}
+
+// `states` is the states' word as it stands.
+#[tactic(auto, using(crate::proofs::RangeLaws::port_range, crate::proofs::StateLaws::number_back), unfolding(crate::specs::Records::port_written))]
+pub fn write_port(links: &mut [u32], states: StatesWord, port: Port, settings: CheckedPort)
+    requires { (states.word ≡ states_at links.old) × (fixed_words ≤ length links.old) }
+    ensures { links.new ≡ port_written links.old port.number (port_is settings.settings) }
+{
+    let state = PortState::from(settings.settings.state);
+    links[STATES] = states.with_state(port, state);
+    write_words(links, port, settings);
 }

@@ -1,8 +1,10 @@
 // The queue switches in one word.
-ghost use Rattle.std.specs.Prelude.{◌≡◌, ◌/◌, ◌*◌, ◌^◌, ◌<◌};
+ghost use Rattle.std.specs.Prelude.{◌≡◌, ◌/◌, ◌*◌, ◌^◌, true, false, MatchResult};
 ghost use Rattle.settings.specs.Switches.{is_switches_word, with_switch};
 
 use layout::bits::with_bit;
+use layout::damage::Damaged;
+use layout::ports::{Port, Queue};
 
 // Bits of a queue: one for each port, and three unused.
 const QUEUE: u32 = 8;
@@ -13,23 +15,38 @@ pub const FRESH_SWITCHES: u32 = 0x1F1F_1F1F;
 // Bits 5 to 7 of each byte.
 const UNUSED: u32 = 0xE0E0_E0E0;
 
-pub fn is_switches_word(word: u32) -> bool
-    ensures { result ≡ is_switches_word word }
-{
-    word & UNUSED == 0
+#[derive(Clone, Copy)]
+pub struct SwitchesWord {
+    pub word: u32,
+    pub ghost in_range: { is_switches_word word ≡ true },
 }
 
-// A queue's switches from bit 0 on; those of the queues after it stand above them.
-pub fn switches_of(word: u32, queue: u32) -> u32
-    requires { queue < 4 }
-    ensures { result ≡ word / 2 ^ (8 * queue) }
-{
-    word >> (QUEUE * queue)
+impl TryFrom<u32> for SwitchesWord {
+    type Error = Damaged;
+
+    ghost try_from_gives = { λ number made. MatchResult made (λ switches. switches.word ≡ number) (λ _. is_switches_word number ≡ false) };
+
+    #[tactic(auto, unfolding(crate::specs::Switches::is_switches_word))]
+    fn try_from(word: u32) -> Result<SwitchesWord, Damaged> {
+        if word & UNUSED == 0 {
+            return Ok(SwitchesWord { word });
+        }
+        Err(Damaged)
+    }
 }
 
-pub fn with_switch(word: u32, port: u32, queue: u32, on: bool) -> u32
-    requires { (port < 5) × (queue < 4) }
-    ensures { result ≡ with_switch word port queue on }
-{
-    with_bit(word, QUEUE * queue + port, on)
+impl SwitchesWord {
+    // A queue's switches from bit 0 on; those of the queues after it stand above them.
+    pub fn of(self, queue: Queue) -> u32
+        ensures { result ≡ self.word / 2 ^ (8 * queue.number) }
+    {
+        self.word >> (QUEUE * queue.number)
+    }
+
+    #[tactic(auto, unfolding(crate::specs::Switches::with_switch))]
+    pub fn with_switch(self, port: Port, queue: Queue, on: bool) -> u32
+        ensures { result ≡ with_switch self.word port.number queue.number on }
+    {
+        with_bit(self.word, QUEUE * queue.number + port.number, on)
+    }
 }

@@ -2,18 +2,16 @@
 ghost use Rattle.std.specs.Prelude.{◌≡◌, ◌<◌, ◌≤◌, length};
 ghost use Rattle.std.proofs.lemmas.List.Edits.{sets};
 ghost use Rattle.layout.specs.Places.{fixed_words, vlan_word};
-ghost use Rattle.settings.specs.Ranges.{VlanRange};
 ghost use Rattle.settings.specs.Ports.{vlan_is};
 ghost use Rattle.settings.specs.Records.{vlan_words};
 
-use crate::operation::pack_operation;
-use crate::vlan::{VlanSettings, pack_vlan};
+use crate::vlan::CheckedVlan;
 use layout::{VLAN, VLAN_OPERATION, VLAN_STRIDE};
 
-pub fn write_vlan(links: &mut [u32], entry: usize, settings: VlanSettings)
-    requires { (entry < 16) × (fixed_words ≤ length links.old) × VlanRange (vlan_is settings) }
-    ensures { links.new ≡ sets links.old (vlan_word entry) (vlan_words (vlan_is settings)) }
+pub fn write_vlan(links: &mut [u32], entry: usize, vlan: CheckedVlan)
+    requires { (entry < 16) × (fixed_words ≤ length links.old) }
+    ensures { links.new ≡ sets links.old (vlan_word entry) (vlan_words (vlan_is vlan.settings)) }
 {
-    links[VLAN + VLAN_STRIDE * entry] = pack_vlan(settings);
-    links[VLAN_OPERATION + VLAN_STRIDE * entry] = pack_operation(settings.operation);
+    links[VLAN + VLAN_STRIDE * entry] = vlan.word();
+    links[VLAN_OPERATION + VLAN_STRIDE * entry] = vlan.operation_word();
 }

@@ -3,7 +3,7 @@ use Prim.Native.Nat.{ℕ, ◌^◌, ◌≤◌, ◌<◌}
 use mathlib.Core.Path.{◌≡◌, refl, ap, ◌∙◌}
 use mathlib.Core.Bool.{Bool, true, false, ◌&&◌}
 use mathlib.Core.List.{List}
-use mathlib.Core.Option.{none}
+use Rattle.std.specs.Prelude.{None as none}
 use native.Mathlib.Omega.{arith}
 use lib.Dec.{leb}
 use lib.ListN.{length}
@@ -24,7 +24,7 @@ use Rattle.machine.specs.Machine.{lines_of, age_step, carry_out, next}
 use Rattle.layout.specs.Lengths.{addresses_fit}
 use Rattle.layout.proofs.Fits.{addresses_fit_law}
 use Rattle.layout.specs.Answers.{done_with}
-use Rattle.addresses.specs.Search.{look_up, full, damaged}
+use Rattle.addresses.specs.Search.{look_up, found_by, full, damaged}
 use Rattle.addresses.specs.Writes.{aged_by, static_by, removed_by}
 use Rattle.addresses.specs.Theorems.{StepTheorems}
 use Rattle.addresses.proofs.LookUps.{undamaged}
@@ -95,7 +95,7 @@ module _ (m : Memories) (s : State) (S : Stands m s) where
   -- ---- static
 
   static_done : (c : StaticRequest) (buffer : List ℕ) → c.gid ≤ 15 → c.port ≤ 4 → c.address < 2 ^ 48
-      → Follows (on_addresses m buffer (done_with 0 0, static_by (look_up memory (key c.gid c.address)) (key c.gid c.address) c.port memory)) buffer s (carry_out s (static c))
+      → Follows (on_addresses m buffer (done_with 0 0, static_by (found_by (look_up memory (key c.gid c.address))) (key c.gid c.address) c.port memory)) buffer s (carry_out s (static c))
   unfolding carry_out silently numbers_of handed_back next tally
   static_done c buffer hg hp ha =
       let k = key c.gid c.address in
@@ -105,9 +105,9 @@ module _ (m : Memories) (s : State) (S : Stands m s) where
         same_answer = refl;
         same_bytes = refl;
         stands_kept =
-            addresses_then m s S (static_by (look_up memory k) k p memory) _
+            addresses_then m s S (static_by (found_by (look_up memory k)) k p memory) _
             (record {
-              fit = fits _ ((length_theorems memory).static_long (look_up memory k) k p);
+              fit = fits _ ((length_theorems memory).static_long (found_by (look_up memory k)) k p);
               says = (steps k).static_is p small hp ∙ rw S.addresses.says refl;
               in_range = (range_theorems memory S.addresses.in_range).static_in_range k p small hp;
             });
@@ -116,7 +116,7 @@ module _ (m : Memories) (s : State) (S : Stands m s) where
   -- ---- remove
 
   remove_done : (c : RemoveRequest) (buffer : List ℕ)
-      → Follows (on_addresses m buffer (done_with 0 0, removed_by (look_up memory (key c.gid c.address)) memory)) buffer s (carry_out s (remove c))
+      → Follows (on_addresses m buffer (done_with 0 0, removed_by (found_by (look_up memory (key c.gid c.address))) memory)) buffer s (carry_out s (remove c))
   unfolding carry_out silently numbers_of handed_back next tally
   remove_done c buffer =
       let k = key c.gid c.address in
@@ -124,9 +124,9 @@ module _ (m : Memories) (s : State) (S : Stands m s) where
         same_answer = refl;
         same_bytes = refl;
         stands_kept =
-            addresses_then m s S (removed_by (look_up memory k) memory) _
+            addresses_then m s S (removed_by (found_by (look_up memory k)) memory) _
             (record {
-              fit = fits _ ((length_theorems memory).remove_long (look_up memory k));
+              fit = fits _ ((length_theorems memory).remove_long (found_by (look_up memory k)));
               says = (steps k).remove_is ∙ rw S.addresses.says refl;
               in_range = (range_theorems memory S.addresses.in_range).remove_in_range k;
             });

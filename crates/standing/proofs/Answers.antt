@@ -3,9 +3,10 @@ use Prim.Native.Nat.{ℕ}
 use mathlib.Core.Path.{◌≡◌, refl, ◌∙◌}
 use mathlib.Core.Bool.{Bool, true, false}
 use mathlib.Core.List.{List, [], ◌∷◌, ◌++◌}
-use mathlib.Core.Option.{Option, none}
+use Rattle.std.specs.Prelude.{Option, None as none}
 use Rattle.rules.specs.Lines.{first}
-use Rattle.rules.specs.Refusals.{Refusal, Lines}
+use Rattle.rules.specs.Refusals.{Lines}
+use Rattle.rules.specs.declared.refusals.Refusal.{Refusal}
 use Rattle.rules.proofs.Choice.{on, on_option}
 use Rattle.machine.specs.Events.{tally}
 use Rattle.machine.specs.State.{State, Call}

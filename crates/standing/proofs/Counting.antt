@@ -7,8 +7,12 @@ use lib.Dec.{eqb}
 use lib.ListN.{length, length-set}
 use borrow.Author.Tests.{eqb-true, eqb-false}
 use Rattle.rules.specs.Choice.{Each, also}
-use Rattle.rules.specs.Reasons.{Reason, reason_number, short, long, group_source, tag_count, port_blocking, port_listening, vid4095, no_vlan, no_member, port_learning, no_candidate, no_port_left, no_room}
-use Rattle.rules.specs.Counters.{Counter, counter_number, offered, accepted, not_learned, queued, state_out, queue_out, sent, drained, reason}
+use Rattle.rules.specs.Reasons.{reason_number}
+use Rattle.rules.specs.declared.reasons.Reason.{Reason}
+use Rattle.rules.specs.declared.reasons.Reason.TheVariants.{Short as short, Long as long, GroupSource as group_source, TagCount as tag_count, PortBlocking as port_blocking, PortListening as port_listening, Vid4095 as vid4095, NoVlan as no_vlan, NoMember as no_member, PortLearning as port_learning, NoCandidate as no_candidate, NoPortLeft as no_port_left, NoRoom as no_room}
+use Rattle.rules.specs.Counters.{counter_number}
+use Rattle.rules.specs.declared.counters.Counter.{Counter}
+use Rattle.rules.specs.declared.counters.Counter.TheVariants.{Offered as offered, Accepted as accepted, NotLearned as not_learned, Queued as queued, StateOut as state_out, QueueOut as queue_out, Sent as sent, Drained as drained, Reason as reason}
 use Rattle.rules.specs.Numbers.{last_counter}
 use Rattle.rules.proofs.Choice.{on}
 use Rattle.machine.specs.Events.{Event, Counts, bumps, bump, tally}

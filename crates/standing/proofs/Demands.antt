@@ -15,7 +15,9 @@ use Rattle.rules.specs.Addresses.{Table}
 use Rattle.rules.specs.AddressTheorems.{entries}
 use Rattle.rules.specs.Counters.{outcomes, sum_over}
 use Rattle.rules.specs.Lines.{first}
-use Rattle.rules.specs.Refusals.{Refusal, memory_length, port_above_four, out_of_range, group_address, short_buffer, vlans_in_use, vlan_not_there, places_in_use, address_not_there, memory_damaged, bad_record, refusal_number, frame_in_lines}
+use Rattle.rules.specs.Refusals.{refusal_number, frame_in_lines}
+use Rattle.rules.specs.declared.refusals.Refusal.{Refusal}
+use Rattle.rules.specs.declared.refusals.Refusal.TheVariants.{MemoryLength as memory_length, PortAboveFour as port_above_four, OutOfRange as out_of_range, GroupAddress as group_address, ShortBuffer as short_buffer, VlansInUse as vlans_in_use, VlanNotThere as vlan_not_there, PlacesInUse as places_in_use, AddressNotThere as address_not_there, MemoryDamaged as memory_damaged, BadRecord as bad_record}
 use Rattle.rules.specs.Outcomes.{Outcome, drops, queues, outcome_of}
 use Rattle.rules.proofs.Choice.{on, on_list, and_right, each_back, each_map, eqb_self}
 use Rattle.rules.proofs.PortTests.{among_sifted, among_port}

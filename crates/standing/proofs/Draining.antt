@@ -6,7 +6,7 @@ use mathlib.Core.Bool.{true, false}
 use mathlib.Core.List.{List, [], ◌∷◌}
 use native.Mathlib.Omega.{arith}
 use lib.ListN.{length}
-use Rattle.rules.specs.Counters as Counters
+use Rattle.rules.specs.declared.counters.Counter.TheVariants.{Drained as drained}
 use Rattle.rules.specs.Outcomes.{Frame}
 use Rattle.rules.proofs.Choice.{on_list, each_first}
 use Rattle.machine.specs.Waiting.{queue_at, send}
@@ -58,7 +58,7 @@ module _ (p q : ℕ) (hp : p < 5) (hq : q < 4) where
     abbrev T : LinkTraffic s.cell_count m.links s.core.waiting
     T = S.traffic.links_stand
 
-    one_is : drain_one n p q m.links ≡ left p q i Counters.drained (departed n p i m.links)
+    one_is : drain_one n p q m.links ≡ left p q i drained (departed n p i m.links)
     unfolding drain_one dropped
     one_is =
         rw (head_oldest n m.links p (some_cells m s S) q i tail head)

@@ -13,7 +13,7 @@ use Rattle.rules.proofs.Choice.{on}
 use Rattle.layout.specs.Lengths.{addresses_fit}
 use Rattle.layout.proofs.Fits.{addresses_fit_law}
 use Rattle.addresses.specs.Numbers.{table_of, all_in_range}
-use Rattle.addresses.specs.Search.{look_up}
+use Rattle.addresses.specs.Search.{look_up, found_by}
 use Rattle.addresses.specs.Writes.{marked_by}
 use Rattle.addresses.proofs.LookUps.{mark_keeps}
 use Rattle.addresses.proofs.Steps.{range_theorems}
@@ -33,8 +33,8 @@ module _ (addresses : List ℕ) (good : all_in_range addresses ≡ true) (long :
   lesson_long : length (lesson_in addresses gid port frame).1 ≡ length addresses
   unfolding lesson_in
   lesson_long =
-      (length_theorems (marked_by (destination_look_up addresses gid (destination frame)) addresses)).learn_long (look_up addresses (key gid (source frame))) (key gid (source frame)) port
-      ∙ (length_theorems addresses).mark_long (destination_look_up addresses gid (destination frame))
+      (length_theorems (marked_by (found_by (destination_look_up addresses gid (destination frame))) addresses)).learn_long (found_by (look_up addresses (key gid (source frame)))) (key gid (source frame)) port
+      ∙ (length_theorems addresses).mark_long (found_by (destination_look_up addresses gid (destination frame)))
 
   -- the source was looked up before the mark, which moves no entry
   lesson_in_range : all_in_range (lesson_in addresses gid port frame).1 ≡ true
@@ -44,7 +44,7 @@ module _ (addresses : List ℕ) (good : all_in_range addresses ≡ true) (long :
       (λ e. rw e ((range_theorems addresses good).learn_in_range (key gid (source frame)) port small there))
       (λ e. rw e
       (rw (← mark_keeps addresses (key gid (destination frame)) (key gid (source frame)) long)
-      ((range_theorems (marked_by (look_up addresses (key gid (destination frame))) addresses) ((range_theorems addresses good).mark_in_range (key gid (destination frame)))
+      ((range_theorems (marked_by (found_by (look_up addresses (key gid (destination frame)))) addresses) ((range_theorems addresses good).mark_in_range (key gid (destination frame)))
       ).learn_in_range (key gid (source frame)) port small there)))
 
 -- ---- the call

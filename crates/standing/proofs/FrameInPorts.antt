@@ -7,7 +7,7 @@ use native.Mathlib.Omega.{arith}
 use Rattle.rules.specs.Choice.{sift, among, Distinct, Each, nobody, also}
 use Rattle.rules.specs.PortTests.{Test, passes, not_member, arrival, elsewhere, state, queue_off, is_passed, ports_left}
 use Rattle.rules.specs.Numbers.{all_ports}
-use Rattle.rules.specs.Counters.{offered, reason, accepted, not_learned, state_out, queue_out}
+use Rattle.rules.specs.declared.counters.Counter.TheVariants.{Offered as offered, Reason as reason, Accepted as accepted, NotLearned as not_learned, StateOut as state_out, QueueOut as queue_out}
 use Rattle.rules.specs.Facts.{Facts}
 use Rattle.rules.specs.Outcomes.{Frame, Outcome, drops, queues, outcome_of, counts_tests}
 use Rattle.rules.proofs.Choice.{on, each_append, distinct_sift}

@@ -9,7 +9,8 @@ use Rattle.rules.proofs.Choice.{on}
 use Rattle.machine.specs.State.{State, free_cells}
 use Rattle.cells.specs.Free.{free_count, room_for}
 use Rattle.cells.specs.Sound.{Sound}
-use Rattle.cells.specs.declared.free.Room.TheVariants.{Enough, NoRoom, Damaged}
+use Rattle.std.specs.Prelude.{Bool, true, false, Result, Ok as ok, Err as err}
+use Rattle.layout.specs.declared.damage.Damaged.{Damaged}
 use Rattle.cells.proofs.Room.{room_enough, room_none}
 use Rattle.standing.specs.LinkTraffic.{LinkTraffic}
 use Rattle.standing.proofs.Arrivals.{free_room}
@@ -17,22 +18,20 @@ use Rattle.frame_in.specs.InRange.{InRange}
 use Rattle.gufhrandi.specs.Memories.{Memories}
 use Rattle.standing.specs.Stands.{Stands}
 
-not_enough : Enough ≡ Damaged → ⊥
-not_enough e = let z : ◌≡◌ {A = ℕ} 0 1 = cc in omega arith
-
-not_short : NoRoom ≡ Damaged → ⊥
-not_short e = let z : ◌≡◌ {A = ℕ} 0 1 = cc in omega arith
+-- an answer is no damage
+no_damage : (enough : Bool) → ◌≡◌ {A = Result Bool Damaged} (ok enough) (err (record {})) → ⊥
+no_damage enough e = let z : ◌≡◌ {A = ℕ} 0 1 = cc in omega arith
 
 module _ (n : ℕ) (links : List ℕ) (sound : Sound n links) where
   -- enough are free, or too few
-  room_by : (k : ℕ) {C : Type 0} → (k ≤ free_count links → C) → (room_for n k links ≡ NoRoom → C) → C
+  room_by : (k : ℕ) {C : Type 0} → (k ≤ free_count links → C) → (room_for n k links ≡ ok false → C) → C
   room_by k yea nay =
       on (leb k (free_count links))
       (λ e. yea (leb-true k (free_count links) e))
       (λ e. nay (room_none n links sound k (leb-false k (free_count links) e)))
 
-  room_whole : (k : ℕ) → room_for n k links ≡ Damaged → ⊥
-  room_whole k e = room_by k (λ h. not_enough (sym (room_enough n links sound k h) ∙ e)) (λ h. not_short (sym h ∙ e))
+  room_whole : (k : ℕ) → room_for n k links ≡ err (record {}) → ⊥
+  room_whole k e = room_by k (λ h. no_damage true (sym (room_enough n links sound k h) ∙ e)) (λ h. no_damage false (sym h ∙ e))
 
 module _ (m : Memories) (s : State) (S : Stands m s) where
   abbrev L : LinkTraffic s.cell_count m.links s.core.waiting

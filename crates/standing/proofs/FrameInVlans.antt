@@ -19,7 +19,7 @@ use Rattle.settings.specs.Table.{vlan_count, entry_at, found_vlan}
 use Rattle.settings.specs.SettingsOf.{vlans_from, vlans_of, settings_of}
 use Rattle.settings.proofs.TableLaws.{vlans_in_use_law}
 use Rattle.settings.proofs.FindLaws.{on_found, found_there, found_nowhere, found_undamaged}
-use Rattle.settings.specs.declared.table.Found.TheVariants.{At, Nowhere}
+use Rattle.std.specs.Prelude.{Ok as ok, Some as some, None as none}
 use Rattle.frame_in.specs.InRange.{InRange}
 use Rattle.arrival.specs.Stored.{operation_found, operation_for}
 
@@ -68,7 +68,7 @@ pub record WordSays (links : List ℕ) (vid : ℕ) : Type 0 where
   pub in_range : is_operation_word (operation_for links vid) ≡ true
   pub says : (vlan_of (settings_of links).vlans vid).operation ≡ operation_of (operation_in (operation_for links vid))
 
-word_none : (links : List ℕ) (vid : ℕ) → found_vlan links vid ≡ Nowhere → WordSays links vid
+word_none : (links : List ℕ) (vid : ℕ) → found_vlan links vid ≡ ok none → WordSays links vid
 unfolding settings_of operation_found absent_vlan no_operation operation_of operation_in kind_of type_of source_of
 word_none links vid q =
     record {
@@ -76,7 +76,7 @@ word_none links vid q =
       says = rw q (ap (λ (v : Vlan). v.operation) (absent_vlan_law (vlans_of links) vid (found_nowhere links vid q)));
     }
 
-word_there : (links addresses : List ℕ) → InRange links addresses → (vid e : ℕ) → found_vlan links vid ≡ At e → WordSays links vid
+word_there : (links addresses : List ℕ) → InRange links addresses → (vid e : ℕ) → found_vlan links vid ≡ ok (some e) → WordSays links vid
 unfolding settings_of operation_found vlan_entry vlan_in
 word_there links addresses good vid e q =
     let t = found_there links vid e q in

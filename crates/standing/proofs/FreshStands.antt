@@ -94,7 +94,7 @@ module _ (cells links addresses : List ℕ) (fit : lengths_fit cells links addre
 
   links_fit_law : links_fit (fresh_links n) ≡ true
   unfolding links_fit
-  links_fit_law = rw (fresh_count n, fresh_length [] n, is_count) (eq-eqb (link_words n) (link_words n) refl)
+  links_fit_law = rw (fresh_count n, fresh_length n, is_count) (eq-eqb (link_words n) (link_words n) refl)
 
   cells_fit_law : cells_fit cells (fresh_links n) ≡ true
   unfolding cells_fit
@@ -115,7 +115,7 @@ module _ (cells links addresses : List ℕ) (fit : lengths_fit cells links addre
         addresses = record { fit = addresses_fit_law; says = number_theorems.table_fresh place_count; in_range = number_theorems.fresh_in_range place_count };
         counters = counters_zero n;
         traffic =
-            fresh_stands n (fresh_links n) some (omega (arith, fresh_length [] n)) (all_free n) (waiting_zero n) cells (omega (arith, cells_long));
+            fresh_stands n (fresh_links n) some (omega (arith, fresh_length n)) (all_free n) (waiting_zero n) cells (omega (arith, cells_long));
       }
 
   pub stands_fresh : ((fresh_call cells links addresses).0 ≡ done_with 0 0) × Stands (on_all [] (fresh_call cells links addresses)).memories (fresh (cells_lent cells))

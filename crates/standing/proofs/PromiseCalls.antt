@@ -9,9 +9,8 @@ use Rattle.layout.specs.Lengths.{cell_count}
 use Rattle.layout.specs.declared.answers.Answer.{Answer}
 use Rattle.fresh_call.specs.Calls.{fresh_refusals, fresh_call}
 use Rattle.frame_in.specs.Call.{facts_in, answer_for, entered, frame_in_refusals, frame_in_call}
-use Rattle.take_out.specs.declared.serving.Next.{Next}
-use Rattle.take_out.specs.declared.serving.Next.TheVariants.{Frame, Nobody, Damaged}
-use Rattle.take_out.specs.Serving.{served}
+use Rattle.take_out.specs.Serving.{Served, nobody, damaged, served}
+use Rattle.take_out.specs.Serving.{frame as next_frame}
 use Rattle.take_out.specs.Take.{Memory, taken_frame, taken_from, take_refusals, take_by, take_call, handed_back}
 use Rattle.take_out.specs.Drain.{drain_refusals, drain_call}
 use Rattle.address_calls.specs.Calls.{age_refusals, age_call, static_refusals, static_call, remove_refusals, remove_call}
@@ -28,11 +27,11 @@ unfolding answer_for
 outcome_done (drops r) = refl
 outcome_done (queues f ports) = refl
 
-taken_done : (cells : List ℕ) (n : ℕ) (links : List ℕ) (port : ℕ) (out : List ℕ) (next : Next) → (taken_from cells n links port out next).0.refusal ≡ 0
+taken_done : (cells : List ℕ) (n : ℕ) (links : List ℕ) (port : ℕ) (out : List ℕ) (next : Served) → (taken_from cells n links port out next).0.refusal ≡ 0
 unfolding taken_from taken_frame
-taken_done cells n links port out (Frame queue c) = refl
-taken_done cells n links port out Nobody = refl
-taken_done cells n links port out Damaged = refl
+taken_done cells n links port out (next_frame queue c) = refl
+taken_done cells n links port out nobody = refl
+taken_done cells n links port out damaged = refl
 
 -- frame-in and the two takes
 
@@ -45,7 +44,7 @@ frame_in_refuses cells links addresses port frame =
     (omega arith, (omega arith, tt))
 
 module _ (cells links : List ℕ) (port : ℕ) (out : List ℕ) where
-  abbrev next : Next
+  abbrev next : Served
   next = served (cell_count links) port links
 
   take_refuses : Refuses (take_refusals cells links port out next) (links, out) (take_call cells links port out)

@@ -1,10 +1,11 @@
 -- A call that is its lines and then what it does. Assumes nothing.
 use mathlib.Core.Path.{◌≡◌, sym, ap, ◌∙◌}
-use mathlib.Core.Option.{Option, some}
+use Rattle.std.specs.Prelude.{Option, Some as some}
 use Rattle.rules.specs.Choice.{Each}
 use Rattle.rules.specs.Lines.{first, Fails, FirstOf}
 use Rattle.rules.specs.LineTheorems.{InOrder}
-use Rattle.rules.specs.Refusals.{Refusal, Lines, refusal_number}
+use Rattle.rules.specs.Refusals.{Lines, refusal_number}
+use Rattle.rules.specs.declared.refusals.Refusal.{Refusal}
 use Rattle.rules.proofs.Choice.{on_option}
 use Rattle.rules.proofs.Lines.{says_exactly, holds_none, none_holds}
 use Rattle.layout.specs.declared.answers.Answer.{Answer}

@@ -3,7 +3,9 @@ use Prim.Native.Nat.{ℕ, zero, suc}
 use mathlib.Core.Path.{◌≡◌, refl, sym, ap, ◌∙◌}
 use mathlib.Core.List.{List, [], ◌∷◌}
 use native.Mathlib.Omega.{arith}
-use Rattle.rules.specs.Refusals.{Refusal, memory_length, port_above_four, out_of_range, group_address, short_buffer, vlans_in_use, vlan_not_there, places_in_use, address_not_there, memory_damaged, bad_record, refusal_number}
+use Rattle.rules.specs.Refusals.{refusal_number}
+use Rattle.rules.specs.declared.refusals.Refusal.{Refusal}
+use Rattle.rules.specs.declared.refusals.Refusal.TheVariants.{MemoryLength as memory_length, PortAboveFour as port_above_four, OutOfRange as out_of_range, GroupAddress as group_address, ShortBuffer as short_buffer, VlansInUse as vlans_in_use, VlanNotThere as vlan_not_there, PlacesInUse as places_in_use, AddressNotThere as address_not_there, MemoryDamaged as memory_damaged, BadRecord as bad_record}
 
 nth : List Refusal → ℕ → Refusal
 nth [] n = bad_record

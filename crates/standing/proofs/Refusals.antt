@@ -3,12 +3,13 @@ use Prim.Native.Nat.{ℕ, ◌≤◌}
 use mathlib.Core.Path.{◌≡◌, refl, sym, ◌∙◌}
 use mathlib.Core.Bool.{true, false, ◌&&◌}
 use mathlib.Core.List.{[], ◌∷◌}
-use mathlib.Core.Option.{Option, none, some}
+use Rattle.std.specs.Prelude.{Option, None as none, Some as some}
 use native.Mathlib.Omega.{arith}
 use lib.Dec.{leb}
 use Rattle.rules.specs.Choice.{Each, nobody, also}
 use Rattle.rules.specs.Lines.{Line, first}
-use Rattle.rules.specs.Refusals.{Refusal, Lines, refusal_number, frame_in_lines, take_lines, age_lines, counter_lines, port_lines, vlan_lines, clear_vlan_lines, static_lines, remove_lines, map_lines, queue_switch_lines, drain_lines, bpdu_lines}
+use Rattle.rules.specs.Refusals.{Lines, refusal_number, frame_in_lines, take_lines, age_lines, counter_lines, port_lines, vlan_lines, clear_vlan_lines, static_lines, remove_lines, map_lines, queue_switch_lines, drain_lines, bpdu_lines}
+use Rattle.rules.specs.declared.refusals.Refusal.{Refusal}
 use Rattle.rules.specs.Outcomes.{Frame, Outcome, drops, queues, outcome_of}
 use Rattle.rules.proofs.Choice.{on, on_option}
 use Rattle.machine.specs.State.{State, Call, frame_in, take, age, counter, port, vlan, clear_vlan, static, remove, map, queue_switch, drain, bpdu}

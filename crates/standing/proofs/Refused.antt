@@ -5,7 +5,9 @@ use mathlib.Core.Bool.{Bool, false, not}
 use mathlib.Core.List.{List, [], ◌∷◌}
 use Rattle.rules.specs.Choice.{nobody}
 use Rattle.rules.specs.Lines.{FirstOf, line}
-use Rattle.rules.specs.Refusals.{Refusal, Lines, memory_length}
+use Rattle.rules.specs.Refusals.{Lines}
+use Rattle.rules.specs.declared.refusals.Refusal.{Refusal}
+use Rattle.rules.specs.declared.refusals.Refusal.TheVariants.{MemoryLength as memory_length}
 use Rattle.machine.specs.State.{Call, frame_in, take, age, counter, port, vlan, clear_vlan, static, remove, map, queue_switch, drain, bpdu}
 use Rattle.layout.specs.declared.answers.Answer.{Answer}
 use Rattle.layout.specs.Answers.{refused_by, length_line}

@@ -9,7 +9,7 @@ use lib.ListN.{length, drop}
 use Rattle.std.specs.Prelude.{if◌then◌else◌}
 use Rattle.rules.specs.Outcomes.{Frame}
 use Rattle.rules.specs.Counters.{counter_number}
-use Rattle.rules.specs.Counters as Counters
+use Rattle.rules.specs.declared.counters.Counter.TheVariants.{Drained as drained}
 use Rattle.machine.specs.Waiting.{Waiting, queue_at, send, drain}
 use Rattle.machine.specs.Events.{drains, Counts, bumps, bump, tally}
 use Rattle.machine.proofs.Waits.{send_same, send_same_port}
@@ -49,7 +49,7 @@ sends_all (suc k) p q ws h = sends_all k p q (send p q ws) (send_shorter k p q w
 
 -- port p counts a drained copy, whichever it is
 unfoldable pub drain_counted : ℕ → Counts → Counts
-drain_counted p c r k = if eqb r p && eqb k (counter_number Counters.drained) then (c r k + 1) % 2 ^ 32 else c r k
+drain_counted p c r k = if eqb r p && eqb k (counter_number drained) then (c r k + 1) % 2 ^ 32 else c r k
 
 unfoldable pub drains_counted : ℕ → ℕ → Counts → Counts
 drains_counted zero p c = c

@@ -3,7 +3,7 @@ use Prim.Native.Nat.{ℕ, zero, suc, ◌≤◌, ◌<◌}
 use mathlib.Core.Path.{◌≡◌, refl, sym, ap, ◌∙◌, subst}
 use mathlib.Core.Bool.{true}
 use mathlib.Core.List.{List, [], ◌∷◌, map}
-use mathlib.Core.Option.{none, some}
+use Rattle.std.specs.Prelude.{None as none, Some as some}
 use native.Mathlib.Omega.{arith}
 use lib.Dec.{eqb}
 use borrow.Author.Tests.{lt-ltb, eqb-true, eqb-false}
@@ -18,9 +18,9 @@ use Rattle.queues.specs.Lists.{waiting_of, list_of, waiting_in_range}
 use Rattle.queues.specs.Queued as Lists
 use Rattle.queues.specs.Queued.{HighestIs}
 use Rattle.queues.proofs.Answers.{highest_lists, queue_highest, nothing_highest}
-use Rattle.take_out.specs.Serving.{served_of, served}
+use Rattle.take_out.specs.Serving.{nobody, served_of, served}
+use Rattle.take_out.specs.Serving.{frame as next_frame}
 use Rattle.take_out.specs.Frames.{frame_at}
-use Rattle.take_out.specs.declared.serving.Next.TheVariants.{Frame, Nobody}
 use Rattle.standing.specs.LinkTraffic.{links_in, LinkTraffic}
 use Rattle.standing.specs.Traffic.{Traffic}
 use Rattle.standing.proofs.Departures.{sift_head, heads}
@@ -71,11 +71,11 @@ module _ (n : ℕ) (links : List ℕ) (ws : List Waiting) (T : LinkTraffic n lin
     unfolding waiting_in_range
     word_good = lt-ltb (waiting_of links p) 16 (T.waiting_words p hp)
 
-    serves_nobody : ((q : ℕ) → q < 4 → lists q ≡ []) → served n p links ≡ Nobody
+    serves_nobody : ((q : ℕ) → q < 4 → lists q ≡ []) → served n p links ≡ nobody
     unfolding served served_of
     serves_nobody none_waits = rw (word_good, highest_lists n links p some_cells ∙ nothing_highest lists none_waits)
 
-    serves_head : (q i : ℕ) (tail : List ℕ) → q < 4 → lists q ≡ i ∷ tail → ((s : ℕ) → s < 4 → q < s → lists s ≡ []) → served n p links ≡ Frame q i
+    serves_head : (q i : ℕ) (tail : List ℕ) → q < 4 → lists q ≡ i ∷ tail → ((s : ℕ) → s < 4 → q < s → lists s ≡ []) → served n p links ≡ next_frame q i
     unfolding served served_of Lists.some
     serves_head q i tail hq head above =
         let highest : HighestIs lists q = record { below = hq; waits = ap Lists.some head; none_above = λ s a b. above s b a } in
@@ -96,9 +96,9 @@ module _ (cells links : List ℕ) (s : State) (T : Traffic s.cell_count cells li
   L = T.links_stand
 
   pub on_served : {C : Type 0}
-      → (served n p links ≡ Nobody → Machine.served s p ≡ none → C)
+      → (served n p links ≡ nobody → Machine.served s p ≡ none → C)
       → ((q i : ℕ) (tail : List ℕ) → q < 4 → list_of n links p q ≡ i ∷ tail
-      → served n p links ≡ Frame q i → Machine.served s p ≡ some (frame_at n cells links i q) → C)
+      → served n p links ≡ next_frame q i → Machine.served s p ≡ some (frame_at n cells links i q) → C)
       → C
   unfolding Machine.served served_queue oldest_of oldest
   on_served nay yea =

@@ -2,7 +2,7 @@
 use Prim.Native.Nat.{ℕ, ◌+◌, ◌≤◌, ◌<◌}
 use mathlib.Core.Path.{◌≡◌, refl, ◌∙◌}
 use mathlib.Core.List.{List}
-use mathlib.Core.Option.{Option, none}
+use Rattle.std.specs.Prelude.{Option, None as none}
 use native.Mathlib.Omega.{arith}
 use lib.ListN.{length}
 use lib.Seq.{sets, length-sets}
@@ -10,7 +10,7 @@ use Rattle.slices.proofs.Runs.{get_d_sets_before}
 use Rattle.rules.specs.Lines.{first}
 use Rattle.rules.specs.Settings.{Settings}
 use Rattle.rules.specs.Arguments.{PortNumbers}
-use Rattle.rules.specs.Refusals.{Refusal}
+use Rattle.rules.specs.declared.refusals.Refusal.{Refusal}
 use Rattle.machine.specs.Events.{tally}
 use Rattle.machine.specs.State.{State, Call}
 use Rattle.machine.specs.SettingCalls.{silently, settle}

@@ -3,14 +3,16 @@ use Prim.Native.Nat.{ℕ}
 use mathlib.Core.Path.{◌≡◌, refl, sym, ap, ap₂, ◌∙◌, subst}
 use mathlib.Core.Bool.{Bool, true, false, ◌&&◌}
 use mathlib.Core.List.{List, [], ◌∷◌}
-use mathlib.Core.Option.{Option, none, some}
+use Rattle.std.specs.Prelude.{Option, None as none, Some as some}
 use native.Mathlib.Omega.{arith}
 use lib.Dec.{eqb, leb}
 use lib.ListN.{length}
 use Rattle.std.specs.Prelude.{if◌then◌else◌}
 use Rattle.rules.specs.Choice.{also}
 use Rattle.rules.specs.Lines.{first}
-use Rattle.rules.specs.Refusals.{Refusal, memory_length, fresh_lines}
+use Rattle.rules.specs.Refusals.{fresh_lines}
+use Rattle.rules.specs.declared.refusals.Refusal.{Refusal}
+use Rattle.rules.specs.declared.refusals.Refusal.TheVariants.{MemoryLength as memory_length}
 use Rattle.rules.proofs.Choice.{on, and_left}
 use Rattle.machine.specs.State.{State, Call, frame_in, take, age, counter, port, vlan, clear_vlan, static, remove, map, queue_switch, drain, bpdu}
 use Rattle.machine.specs.Machine.{perform, next}

@@ -5,7 +5,7 @@ use mathlib.Core.Bool.{false}
 use mathlib.Core.List.{List}
 use Rattle.rules.specs.Settings.{is_there}
 use Rattle.machine.specs.SettingCalls as Machine
-use Rattle.settings.specs.declared.table.Found.TheVariants.{At, Nowhere}
+use Rattle.std.specs.Prelude.{Ok as ok, Some as some, None as none}
 use Rattle.settings.specs.Table.{found_vlan}
 use Rattle.settings.specs.SettingsOf.{vlans_of}
 use Rattle.settings.proofs.TableLaws.{vlans_length}
@@ -15,7 +15,7 @@ use Rattle.standing.specs.Stands.{SettingsInRange}
 
 module _ (l : List ℕ) (range : SettingsInRange l) (vid : ℕ) where
   -- found or not: by cases
-  pub searched : {C : Type 0} → ((e : ℕ) → found_vlan l vid ≡ At e → C) → (found_vlan l vid ≡ Nowhere → C) → C
+  pub searched : {C : Type 0} → ((e : ℕ) → found_vlan l vid ≡ ok (some e) → C) → (found_vlan l vid ≡ ok none → C) → C
   searched at nowhere =
       on_found (found_vlan l vid) (λ f. absurd (found_undamaged l vid range.vlan_count_law range.vlans f)) nowhere at
 

@@ -4,7 +4,8 @@ use Rattle.std.specs.Prelude.{ℕ, ◌≡◌, ◌↔◌, List, []}
 use Rattle.rules.specs.Choice.{Each}
 use Rattle.rules.specs.Lines.{Fails, FirstOf}
 use Rattle.rules.specs.LineTheorems.{InOrder}
-use Rattle.rules.specs.Refusals.{Refusal, Lines, refusal_number}
+use Rattle.rules.specs.Refusals.{Lines, refusal_number}
+use Rattle.rules.specs.declared.refusals.Refusal.{Refusal}
 use Rattle.layout.specs.declared.answers.Answer.{Answer}
 use Rattle.layout.specs.Answers.{refused_by}
 

@@ -4,7 +4,9 @@ use Rattle.std.specs.Prelude.{ℕ, ◌≡◌, ◌↔◌, false, List}
 use Rattle.rules.specs.Choice.{Each}
 use Rattle.rules.specs.Lines.{Fails, FirstOf}
 use Rattle.rules.specs.LineTheorems.{InOrder}
-use Rattle.rules.specs.Refusals.{Refusal, memory_length, refusal_number}
+use Rattle.rules.specs.Refusals.{refusal_number}
+use Rattle.rules.specs.declared.refusals.Refusal.{Refusal}
+use Rattle.rules.specs.declared.refusals.Refusal.TheVariants.{MemoryLength as memory_length}
 use Rattle.machine.specs.State.{Call}
 use Rattle.layout.specs.Answers.{refused_by}
 use Rattle.gufhrandi.specs.Memories.{Memories, Done}

@@ -1,4 +1,3 @@
-pub mod Swaps
 pub mod Laws
 pub mod Stacks
 pub mod Numbers

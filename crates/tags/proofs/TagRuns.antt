@@ -1,13 +1,14 @@
 -- The bytes of a tag and of a stack, as runs of stores. Assumes nothing.
-use Prim.Native.Nat.{ℕ, suc, ◌+◌, ◌*◌, ◌/◌, ◌%◌}
-use mathlib.Core.Path.{◌≡◌, sym, ap, ◌∙◌}
-use mathlib.Core.List.{List, [], ◌∷◌, append-nil}
+use Prim.Native.Nat.{ℕ, ◌+◌, ◌*◌, ◌/◌, ◌%◌, ◌<◌, ◌≤◌}
+use mathlib.Core.Path.{◌≡◌, ap, sym, ◌∙◌}
+use mathlib.Core.List.{List, [], ◌∷◌, ◌++◌, map}
 use native.Mathlib.Omega.{arith}
-use lib.ListN.{length, set}
-use lib.Seq.{sets}
-use Rattle.slices.proofs.Runs.{sets_append}
+use native.Mathlib.Numerals.{add-one}
+use lib.ListN.{length, get_or, take, drop, drop_of_length-le}
+use lib.Seq.{sets, drop-cons}
+use Rattle.slices.proofs.Runs.{sets_append, part_back}
 use Rattle.rules.specs.Tags.{Tag, header_of, header_bytes, tag_bytes, stack_bytes}
-use Rattle.tags.specs.Numbers.{tag_is, first_tags, stack_is}
+use Rattle.tags.specs.Numbers.{tag_is, stack_is}
 use Rattle.tags.specs.declared.stack.Stack.{Stack}
 
 -- PCP, DEI and the VID's upper four bits make the header's first byte
@@ -22,7 +23,7 @@ first_byte m =
     whole q = omega arith
 
 -- the four bytes of a tag are those of its number
-pub tag_bytes_law : (n : ℕ) → tag_bytes (tag_is n) ≡ n / 16777216 ∷ n / 65536 % 256 ∷ n / 256 % 256 ∷ n % 256 ∷ []
+tag_bytes_law : (n : ℕ) → tag_bytes (tag_is n) ≡ n / 16777216 ∷ n / 65536 % 256 ∷ n / 256 % 256 ∷ n % 256 ∷ []
 unfolding tag_bytes tag_is header_bytes header_of
 tag_bytes_law n =
     let a : n / 65536 / 256 ≡ n / 16777216 = omega arith in
@@ -30,68 +31,29 @@ tag_bytes_law n =
     let d : n % 65536 % 4096 % 256 ≡ n % 256 = omega arith in
     rw (a, first_byte (n % 65536), b, d)
 
-pub tag_run :
-    (l : List ℕ) (at n : ℕ)
-    → set (set (set (set l at (n / 16777216)) (at + 1) (n / 65536 % 256)) (at + 2) (n / 256 % 256)) (at + 3) (n % 256)
-    ≡ sets l at (tag_bytes (tag_is n))
-tag_run l at n =
-    let one : at + 1 ≡ suc at = omega arith in
-    let two : at + 2 ≡ suc (suc at) = omega arith in
-    let three : at + 3 ≡ suc (suc (suc at)) = omega arith in
-    rw (tag_bytes_law n, one, two, three)
-
-tag_length : (n : ℕ) → length (tag_bytes (tag_is n)) ≡ 4
-tag_length n = ap length (tag_bytes_law n)
-
--- a stack's bytes are its first tag's, and those of the rest four further on
-run_cons :
-    (l : List ℕ) (at n : ℕ) (rest : List Tag)
-    → sets (sets l at (tag_bytes (tag_is n))) (at + 4) (stack_bytes rest) ≡ sets l at (stack_bytes (tag_is n ∷ rest))
+-- what is left to write, where a tag's bytes come back: those of the tags behind it, four further on
+pub tag_turn :
+    (start out tags bytes : List ℕ) (at i size : ℕ)
+    → sets out (at + 4 * i) (stack_bytes (map tag_is (drop i tags))) ≡ sets start at (stack_bytes (map tag_is tags))
+    → i < length tags → at + 4 * i + 4 ≤ length out → size ≡ 4 → get_or tags i 0 < 4294967296
+    → bytes ≡ get_or tags i 0 / 16777216 % 256 ∷ get_or tags i 0 / 65536 % 256 ∷ get_or tags i 0 / 256 % 256 ∷ get_or tags i 0 % 256 ∷ []
+    → sets (take (at + 4 * i) out ++ (bytes ++ drop size (drop (at + 4 * i) out))) (at + 4 * (i + 1)) (stack_bytes (map tag_is (drop (i + 1) tags)))
+    ≡ sets start at (stack_bytes (map tag_is tags))
 unfolding stack_bytes
-run_cons l at n rest = sym (rw (tag_length n) at (sets_append l at (tag_bytes (tag_is n)) (stack_bytes rest)))
+tag_turn start out tags bytes at i size before h f e small is =
+    let tag : ℕ = get_or tags i 0 in
+    let first : tag / 16777216 % 256 ≡ tag / 16777216 = omega (arith, small) in
+    let those : tag_bytes (tag_is tag) ≡ bytes = tag_bytes_law tag ∙ rw first at (sym is) in
+    let four : length bytes ≡ 4 = ap length is in
+    let next : at + 4 * (i + 1) ≡ at + 4 * i + length bytes = omega (arith, four) in
+    let rest : List Tag = map tag_is (drop (i + 1) tags) in
+    let here : map tag_is (drop i tags) ≡ tag_is tag ∷ rest = rw add-one (ap (map tag_is) (drop-cons tags i 0 h)) in
+    rw (e, part_back out (at + 4 * i) 4 bytes f four, next) (sym (sets_append out (at + 4 * i) bytes (stack_bytes rest)) ∙ rw (here, those) at before)
 
--- a tag's stores
-abbrev pub put : List ℕ → ℕ → ℕ → List ℕ
-put l at n = sets l at (tag_bytes (tag_is n))
-
-run_last : (l : List ℕ) (at n : ℕ) → put l at n ≡ sets l at (stack_bytes (tag_is n ∷ []))
-unfolding stack_bytes
-run_last l at n = rw append-nil
-
-module _ (l : List ℕ) (at : ℕ) (s : Stack) where
-  pub encoded_none : s.count ≡ 0 → l ≡ sets l at (stack_bytes (stack_is s))
-  unfolding stack_is first_tags stack_bytes
-  encoded_none e = rw e
-
-  pub encoded_one : s.count ≡ 1 → put l at s.first ≡ sets l at (stack_bytes (stack_is s))
-  unfolding stack_is first_tags
-  encoded_one e = rw e (run_last l at s.first)
-
-  pub encoded_two : s.count ≡ 2 → put (put l at s.first) (at + 4) s.second ≡ sets l at (stack_bytes (stack_is s))
-  unfolding stack_is first_tags
-  encoded_two e = rw e (run_last (put l at s.first) (at + 4) s.second ∙ run_cons l at s.first _)
-
-  pub encoded_three :
-      s.count ≡ 3
-      → put (put (put l at s.first) (at + 4) s.second) (at + 8) s.third ≡ sets l at (stack_bytes (stack_is s))
-  unfolding stack_is first_tags
-  encoded_three e =
-      let eight : at + 8 ≡ at + 4 + 4 = omega arith in
-      rw (e, eight)
-      (run_last (put (put l at s.first) (at + 4) s.second) (at + 4 + 4) s.third
-      ∙ run_cons (put l at s.first) (at + 4) s.second _
-      ∙ run_cons l at s.first _)
-
-  pub encoded_four :
-      s.count ≡ 4
-      → put (put (put (put l at s.first) (at + 4) s.second) (at + 8) s.third) (at + 12) s.fourth
-      ≡ sets l at (stack_bytes (stack_is s))
-  unfolding stack_is first_tags
-  encoded_four e =
-      let eight : at + 8 ≡ at + 4 + 4 = omega arith in
-      let twelve : at + 12 ≡ at + 4 + 4 + 4 = omega arith in
-      rw (e, eight, twelve)
-      (run_last (put (put (put l at s.first) (at + 4) s.second) (at + 4 + 4) s.third) (at + 4 + 4 + 4) s.fourth
-      ∙ run_cons (put (put l at s.first) (at + 4) s.second) (at + 4 + 4) s.third _
-      ∙ run_cons (put l at s.first) (at + 4) s.second _
-      ∙ run_cons l at s.first _)
+-- nothing is left behind the last
+pub all_written :
+    (start out : List ℕ) (s : Stack) (at i : ℕ)
+    → sets out (at + 4 * i) (stack_bytes (map tag_is (drop i (take s.count s.tags)))) ≡ sets start at (stack_bytes (map tag_is (take s.count s.tags)))
+    → length (take s.count s.tags) ≤ i → out ≡ sets start at (stack_bytes (stack_is s))
+unfolding stack_is stack_bytes
+all_written start out s at i before h = rw (drop_of_length-le (take s.count s.tags) {i = i} h) at before

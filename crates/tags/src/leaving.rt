@@ -1,35 +1,26 @@
 // The tags with which a frame leaves: the five operations, and where the fields of a new tag come from.
-ghost use Rattle.std.specs.Prelude.{◌≡◌, ◌≤◌, ◌<◌};
+ghost use Rattle.std.specs.Prelude.{◌≡◌, ◌+◌, ◌≤◌, ◌<◌};
 ghost use Rattle.rules.specs.Tags.{header_of};
 ghost use Rattle.rules.specs.Operations.{from, new_tag, operate, leaving_tags};
-ghost use Rattle.rules.specs.Arguments.{type_of, source_of};
+ghost use Rattle.rules.specs.Arguments.{type_of};
 ghost use Rattle.tags.specs.Numbers.{tag_is, joined_tag, stack_is, origin_is};
 ghost use Rattle.tags.specs.Operations.{operation_is};
 
 use crate::headers::header_at;
-use crate::stack::{Stack, few, pop, push};
+use crate::stack::Stack;
+use rules::operations::{Kind, Source};
 
-// Kind, type and sources by the numbers of the calls; the header is PCP · 8192 + DEI · 4096 + VID.
+// The type by the number of the calls; the header is PCP · 8192 + DEI · 4096 + VID.
 #[derive(Clone, Copy)]
 pub struct Operation {
-    pub kind: u32,
+    pub kind: Kind,
     pub tag_type: u32,
-    pub vid_source: u32,
-    pub pcp_source: u32,
+    pub vid_source: Source,
+    pub pcp_source: Source,
     pub header: u16,
 }
 
-// "A new tag's VID, and its PCP with DEI, come each from the original outermost tag, the original second tag, or the
-// operation."
-fn source_header(default: u16, tags: Stack, given: u16, source: u32) -> u16
-    ensures { header_of result ≡ from (origin_is tags default) (header_of given) (source_of source) }
-{
-    if 1 < source {
-        return given;
-    }
-    header_at(default, tags, source as usize)
-}
-
+#[tactic(auto, unfolding(rules::specs::Arguments::type_of))]
 fn type_of(number: u32) -> u32
     ensures { (result ≡ type_of number) × (result < 65536) }
 {
@@ -37,49 +28,74 @@ fn type_of(number: u32) -> u32
 }
 
 // A tag of a type, the PCP and DEI of one header and the VID of another.
+#[tactic(auto, using(crate::proofs::Operated::joined_is))]
 fn joined(ethertype: u32, upper: u16, lower: u16) -> u32
     requires { ethertype < 65536 }
     ensures { tag_is result ≡ joined_tag ethertype (header_of upper) (header_of lower) }
 {
-    ethertype * 65536 + ((upper / 4096 * 4096 + lower % 4096) as u32)
+    ethertype * 65536 + u32::from(upper / 4096 * 4096 + lower % 4096)
 }
 
-fn new_tag(default: u16, tags: Stack, operation: Operation) -> u32
-    ensures { tag_is result ≡ new_tag (origin_is tags default) (operation_is operation) }
-{
-    let ethertype = type_of(operation.tag_type);
-    let upper = source_header(default, tags, operation.header, operation.pcp_source);
-    let lower = source_header(default, tags, operation.header, operation.vid_source);
-    joined(ethertype, upper, lower)
+// What an operation may copy from: the frame's own tags, and the default header for one that is missing.
+#[derive(Clone, Copy)]
+pub struct Origin {
+    pub tags: Stack,
+    pub default: u16,
 }
 
-// One operation on a stack; new fields come from the frame's own tags and the default header.
-pub fn operate(default: u16, tags: Stack, operation: Operation, stack: Stack) -> Stack
-    requires { stack.count ≤ 3 }
-    ensures { stack_is result ≡ operate (origin_is tags default) (operation_is operation) (stack_is stack) }
-{
-    let kind = operation.kind;
-    if kind == 0 {
-        return stack;
+impl Origin {
+    // "A new tag's VID, and its PCP with DEI, come each from the original outermost tag, the original second tag, or
+    // the operation."
+    #[inline(always)]
+    #[tactic(auto, unfolding(rules::specs::Operations::from, crate::specs::Numbers::origin_is))]
+    fn header(self, given: u16, source: Source) -> u16
+        ensures { header_of result ≡ from (origin_is self.tags self.default) (header_of given) source }
+    {
+        match source {
+            Source::Outermost => header_at(self.default, self.tags, 0),
+            Source::Second => header_at(self.default, self.tags, 1),
+            Source::Given => given,
+        }
     }
-    if kind == 1 {
-        return pop(stack);
+
+    #[inline(always)]
+    #[tactic(auto, unfolding(rules::specs::Operations::new_tag, crate::specs::Numbers::joined_tag, crate::specs::Operations::operation_is))]
+    fn new_tag(self, operation: Operation) -> u32
+        ensures { tag_is result ≡ new_tag (origin_is self.tags self.default) (operation_is operation) }
+    {
+        let ethertype = type_of(operation.tag_type);
+        let upper = self.header(operation.header, operation.pcp_source);
+        let lower = self.header(operation.header, operation.vid_source);
+        joined(ethertype, upper, lower)
     }
-    if 3 < kind {
-        return few(0, 0, 0);
+
+    // One operation on a stack.
+    #[inline(always)]
+    #[tactic(auto, unfolding(rules::specs::Operations::operate, rules::specs::Operations::on_stack, crate::specs::Operations::operation_is))]
+    pub fn operate(self, operation: Operation, stack: Stack) -> Stack
+        requires { stack.count ≤ 3 }
+        ensures { (stack_is result ≡ operate (origin_is self.tags self.default) (operation_is operation) (stack_is stack))
+            × (result.count ≤ stack.count + 1) }
+    {
+        let under = match operation.kind {
+            Kind::Nothing => return stack,
+            Kind::Pop => return stack.pop(),
+            Kind::PopAll => return Stack::new(),
+            Kind::Push => stack,
+            Kind::Swap => stack.pop(),
+        };
+        under.push(self.new_tag(operation))
     }
-    let tag = new_tag(default, tags, operation);
-    if kind == 2 {
-        return push(tag, stack);
-    }
-    push(tag, pop(stack))
 }
 
 // "VLAN operation first, departing port's second."
+#[inline(always)]
+#[tactic(auto, unfolding(rules::specs::Operations::leaving_tags, crate::specs::Numbers::origin_is))]
 pub fn leaving_tags(default: u16, tags: Stack, vlan: Operation, port: Operation) -> Stack
     requires { tags.count ≤ 2 }
     ensures { stack_is result ≡ leaving_tags (origin_is tags default) (operation_is vlan) (operation_is port) }
 {
-    let once = operate(default, tags, vlan, tags);
-    operate(default, tags, port, once)
+    let origin = Origin { tags, default };
+    let once = origin.operate(vlan, tags);
+    origin.operate(port, once)
 }

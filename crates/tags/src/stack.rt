@@ -1,54 +1,66 @@
 // A stack of tags by value. A tag is its four bytes as one number: the type, then PCP · 8192 + DEI · 4096 + VID.
-ghost use Rattle.std.specs.Prelude.{◌≡◌, ◌≤◌, ◌∷◌, drop};
-ghost use Rattle.tags.specs.Numbers.{tag_is, few_tags, stack_is};
+ghost use Rattle.std.specs.Prelude.{◌≤◌, length};
 
 // At most four tags, outermost first; those past the count say nothing.
 #[derive(Clone, Copy)]
 pub struct Stack {
     pub count: usize,
-    pub first: u32,
-    pub second: u32,
-    pub third: u32,
-    pub fourth: u32,
+    pub tags: [u32; 4],
+    pub ghost few: { count ≤ length tags },
 }
 
-pub fn few(count: usize, first: u32, second: u32) -> Stack
-    ensures { result ≡ few_tags count first second }
-{
-    Stack {
-        count,
-        first,
-        second,
-        third: 0,
-        fourth: 0,
-    }
-}
+impl Stack {
+    ghost use Rattle.std.specs.Prelude.{◌≡◌, ◌+◌, ◌∷◌, [], drop, get_or, MatchOption};
+    ghost use Rattle.rules.specs.Tags.{Tag};
+    ghost use Rattle.tags.specs.Numbers.{tag_is, stack_is};
 
-pub fn push(tag: u32, stack: Stack) -> Stack
-    requires { stack.count ≤ 3 }
-    ensures { stack_is result ≡ tag_is tag ∷ stack_is stack }
-{
-    Stack {
-        count: stack.count + 1,
-        first: tag,
-        second: stack.first,
-        third: stack.second,
-        fourth: stack.third,
+    #[tactic(auto, unfolding(crate::specs::Numbers::stack_is))]
+    pub fn new() -> Stack
+        ensures { (stack_is result ≡ []) × (result.count ≡ 0) }
+    {
+        Stack {
+            count: 0,
+            tags: [0; 4],
+        }
     }
-}
 
-// "Pop removes the outermost if any."
-pub fn pop(stack: Stack) -> Stack
-    ensures { (stack_is result ≡ drop 1 (stack_is stack)) × (result.count ≤ stack.count) }
-{
-    if stack.count == 0 {
-        return stack;
+    // Tag i, the outermost being 0.
+    #[tactic(auto, unfolding(crate::specs::Numbers::stack_is))]
+    pub fn get(self, i: usize) -> Option<u32>
+        ensures { MatchOption result (self.count ≤ i)
+            (λ tag. (other : Tag) → get_or (stack_is self) i other ≡ tag_is tag) }
+    {
+        if i < self.count {
+            Some(self.tags[i])
+        } else {
+            None
+        }
     }
-    Stack {
-        count: stack.count - 1,
-        first: stack.second,
-        second: stack.third,
-        third: stack.fourth,
-        fourth: 0,
+
+    #[tactic(auto, unfolding(crate::specs::Numbers::stack_is))]
+    pub fn push(self, tag: u32) -> Stack
+        requires { self.count ≤ 3 }
+        ensures { (stack_is result ≡ tag_is tag ∷ stack_is self) × (result.count ≡ self.count + 1) }
+    {
+        let [first, second, third, _] = self.tags;
+        Stack {
+            count: self.count + 1,
+            tags: [tag, first, second, third],
+        }
+    }
+
+    // "Pop removes the outermost if any."
+    #[tactic(auto, unfolding(crate::specs::Numbers::stack_is))]
+    pub fn pop(self) -> Stack
+        ensures { (stack_is result ≡ drop 1 (stack_is self)) × (result.count ≤ self.count) }
+    {
+        if self.count == 0 {
+            return self;
+        }
+        let [_, second, third, fourth] = self.tags;
+        Stack {
+            count: self.count - 1,
+            tags: [second, third, fourth, 0],
+        }
     }
 }

@@ -1,3 +1,1 @@
-pub mod Service
 pub mod Takes
-pub mod Drains

@@ -1,7 +1,8 @@
 -- The call drain: what it refuses, what it answers and what it writes. Assumes nothing: these are definitions.
 use Rattle.std.specs.Prelude.{ℕ, not, List, [], ◌∷◌, ◌++◌}
 use Rattle.rules.specs.Lines.{Line, first}
-use Rattle.rules.specs.Refusals.{Refusal, drain_lines}
+use Rattle.rules.specs.Refusals.{drain_lines}
+use Rattle.rules.specs.declared.refusals.Refusal.{Refusal}
 use Rattle.layout.specs.Lengths.{cell_count, links_fit}
 use Rattle.layout.specs.Answers.{length_line, damage_line, or_refused, done_with}
 use Rattle.layout.specs.declared.answers.Answer.{Answer}

@@ -2,18 +2,18 @@
 use Rattle.std.specs.Prelude.{ℕ, Bool, true, false, not, ◌&&◌, List, [], ◌∷◌, ◌++◌, length, take, if◌then◌else◌}
 use Rattle.std.proofs.lemmas.List.Edits.{sets}
 use Rattle.rules.specs.Lines.{Line, first}
-use Rattle.rules.specs.Counters.{sent}
-use Rattle.rules.specs.Refusals.{Refusal, memory_damaged, take_lines}
+use Rattle.rules.specs.declared.counters.Counter.TheVariants.{Sent as sent}
+use Rattle.rules.specs.Refusals.{take_lines}
+use Rattle.rules.specs.declared.refusals.Refusal.{Refusal}
+use Rattle.rules.specs.declared.refusals.Refusal.TheVariants.{MemoryDamaged as memory_damaged}
 use Rattle.machine.specs.TakeOut.{leaving_bytes}
 use Rattle.layout.specs.Lengths.{cell_count, links_fit, cells_fit}
 use Rattle.layout.specs.Answers.{length_line, damage_line, or_refused, refused_by, done_with}
 use Rattle.layout.specs.declared.answers.Answer.{Answer}
 use Rattle.settings.specs.SettingsOf.{settings_of}
-use Rattle.take_out.specs.Serving.{served}
+use Rattle.take_out.specs.Serving.{Served, frame, nobody, damaged, served}
 use Rattle.departure.specs.Leaving.{departed, left}
 use Rattle.take_out.specs.Frames.{frame_at, can_send}
-use Rattle.take_out.specs.declared.serving.Next.{Next}
-use Rattle.take_out.specs.declared.serving.Next.TheVariants.{Frame, Nobody, Damaged}
 
 -- link memory and the lent buffer
 abbrev pub Memory : Type 0
@@ -42,25 +42,25 @@ taken_or_damaged cells n links port out queue c =
 
 -- ---- the call, by what is served
 
-unfoldable pub damaged_in : List ℕ → ℕ → List ℕ → ℕ → Next → Bool
-damaged_in cells n links port (Frame queue c) = not (can_send cells n port c links)
-damaged_in cells n links port Nobody = false
-damaged_in cells n links port Damaged = true
+unfoldable pub damaged_in : List ℕ → ℕ → List ℕ → ℕ → Served → Bool
+damaged_in cells n links port (frame queue c) = not (can_send cells n port c links)
+damaged_in cells n links port nobody = false
+damaged_in cells n links port damaged = true
 
 -- "an empty port answers length 0 and queue 0"
-unfoldable pub taken_from : List ℕ → ℕ → List ℕ → ℕ → List ℕ → Next → Answer × Memory
-taken_from cells n links port out (Frame queue c) = taken_frame cells n links port out queue c
-taken_from cells n links port out Nobody = (done_with 0 0, (links, out))
-taken_from cells n links port out Damaged = (done_with 0 0, (links, out))
+unfoldable pub taken_from : List ℕ → ℕ → List ℕ → ℕ → List ℕ → Served → Answer × Memory
+taken_from cells n links port out (frame queue c) = taken_frame cells n links port out queue c
+taken_from cells n links port out nobody = (done_with 0 0, (links, out))
+taken_from cells n links port out damaged = (done_with 0 0, (links, out))
 
 -- the call's lines: 1, the rules' own, 10
-unfoldable pub take_refusals : List ℕ → List ℕ → ℕ → List ℕ → Next → List (Line Refusal)
+unfoldable pub take_refusals : List ℕ → List ℕ → ℕ → List ℕ → Served → List (Line Refusal)
 take_refusals cells links port out next =
     length_line (links_fit links && cells_fit cells links)
     ∷ take_lines (record { port = port; buffer = length out })
     ++ (damage_line (damaged_in cells (cell_count links) links port next) ∷ [])
 
-unfoldable pub take_by : List ℕ → List ℕ → ℕ → List ℕ → Next → Answer × Memory
+unfoldable pub take_by : List ℕ → List ℕ → ℕ → List ℕ → Served → Answer × Memory
 take_by cells links port out next =
     or_refused (first (take_refusals cells links port out next)) (links, out)
     (taken_from cells (cell_count links) links port out next)

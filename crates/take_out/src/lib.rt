@@ -2,45 +2,44 @@
 #![tactic(auto)]
 
 ghost use Rattle.std.specs.Prelude.{◌≡◌, ◌≤◌, length};
+ghost use Rattle.layout.specs.Answers.{answered};
 ghost use Rattle.take_out.specs.Take.{take_call, handed_back};
 ghost use Rattle.take_out.specs.Drain.{drain_call};
 
-use crate::serving::{Next, served};
-use layout::CELL_COUNT;
-use layout::answers::Answer;
-use layout::numbers::{LARGEST_RESULT, LAST_PORT};
-use layout::refusals::{MEMORY_DAMAGED, MEMORY_LENGTH, PORT_ABOVE_FOUR, SHORT_BUFFER};
+use crate::serving::served;
+use departure::draining::{can_drain_all, drain_all};
+use layout::answers::{Answer, Done, must};
+use layout::cell_count::cell_count;
+use layout::lengths::{cells_fit, links_fit};
+use layout::numbers::LARGEST_RESULT;
+use layout::ports::Port;
+use rules::refusals::Refusal;
 
 mod serving; // which queue is served
 mod taking; // a frame is taken
 
 // "A take at a port writes the oldest frame of its highest-numbered waiting queue; the rest of the buffer keeps its
 // bytes." Answers the length written, and the queue.
-pub fn take_into(cells: &[u8], links: &mut [u32], port: u32, out: &mut [u8]) -> Answer
-    ensures out_after { (result, (links.new, out.new))
+#[tactic(auto, using(layout::proofs::Fits::links_fit_law, layout::proofs::Fits::cells_fit_law), unfolding(crate::specs::Take::take_call, crate::specs::Take::take_by, crate::specs::Take::take_refusals, crate::specs::Take::damaged_in, crate::specs::Take::taken_from, crate::specs::Take::taken_or_damaged, rules::specs::Lines::first, rules::specs::Refusals::take_lines))]
+pub fn take_into(
+    cells: &[u8],
+    links: &mut [u32],
+    port: u32,
+    out: &mut [u8],
+) -> Result<Done, Refusal>
+    ensures out_after { (answered result, (links.new, out.new))
         ≡ take_call cells.now links.old port out.old }
-    ensures x_in_bounds { result.x ≤ length out.old }
+    ensures x_in_bounds { (answered result).x ≤ length out.old }
 {
-    if !layout::lengths::links_fit(links) {
-        return layout::answers::refused(MEMORY_LENGTH);
-    }
-    if !layout::lengths::cells_fit(cells, links) {
-        return layout::answers::refused(MEMORY_LENGTH);
-    }
-    if LAST_PORT < port {
-        return layout::answers::refused(PORT_ABOVE_FOUR);
-    }
-    if out.len() < LARGEST_RESULT {
-        return layout::answers::refused(SHORT_BUFFER);
-    }
-    let n = links[CELL_COUNT] as usize;
-    let p = port as usize;
-    let next = served(links, n, p);
-    match next {
-        Next::Frame { queue, cell } => taking::take_frame(cells, links, n, p, queue, cell, out),
-        Next::Nobody => layout::answers::done(0, 0),
-        Next::Damaged => layout::answers::refused(MEMORY_DAMAGED),
-    }
+    must(links_fit(links), Refusal::MemoryLength)?;
+    must(cells_fit(cells, links), Refusal::MemoryLength)?;
+    let port = Port::try_from(port)?;
+    must(LARGEST_RESULT <= out.len(), Refusal::ShortBuffer)?;
+    let n = cell_count(links);
+    let Some(next) = served(links, n, port)? else {
+        return Ok(Done { x: 0, y: 0 });
+    };
+    taking::take_frame(cells, links, n, port, next, out)
 }
 
 // "Hands back exactly the written part of the lent buffer": an empty one at an empty port and at a refusal. The refusal, 0
@@ -60,7 +59,7 @@ pub fn take<'a>(
         ≡ (take_call cells.now links.old port out.old).0.x)
         × (length result.now ≤ length out.old) }
 {
-    let answer = take_into(cells, links, port, out);
+    let answer = Answer::from(take_into(cells, links, port, out));
     *refusal = answer.refusal;
     *queue = answer.y;
     let long = answer.x as usize;
@@ -68,19 +67,14 @@ pub fn take<'a>(
 }
 
 // "A drain drops every copy that waits at one port." Answers how many.
-pub fn drain(links: &mut [u32], port: u32) -> Answer
-    ensures { (result, links.new) ≡ drain_call links.old port }
+#[tactic(auto, using(layout::proofs::Fits::links_fit_law), unfolding(crate::specs::Drain::drain_call, crate::specs::Drain::drain_refusals, rules::specs::Lines::first, rules::specs::Refusals::drain_lines))]
+pub fn drain(links: &mut [u32], port: u32) -> Result<Done, Refusal>
+    ensures { (answered result, links.new) ≡ drain_call links.old port }
 {
-    if !layout::lengths::links_fit(links) {
-        return layout::answers::refused(MEMORY_LENGTH);
-    }
-    if LAST_PORT < port {
-        return layout::answers::refused(PORT_ABOVE_FOUR);
-    }
-    let n = links[CELL_COUNT] as usize;
-    if !departure::draining::can_drain_all(links, n, port) {
-        return layout::answers::refused(MEMORY_DAMAGED);
-    }
-    let copies = departure::draining::drain_all(links, n, port);
-    layout::answers::done(copies, 0)
+    must(links_fit(links), Refusal::MemoryLength)?;
+    let port = Port::try_from(port)?;
+    let n = cell_count(links);
+    must(can_drain_all(links, n, port), Refusal::MemoryDamaged)?;
+    let copies = drain_all(links, n, port);
+    Ok(Done { x: copies, y: 0 })
 }

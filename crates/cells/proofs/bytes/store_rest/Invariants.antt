@@ -1,14 +1,12 @@
 -- `cells::bytes::store_rest` meets its contract. The invariant: what is left to store, stored into the cells as they are now, gives the result. The measure is how many bytes are left.
-use mathlib.Core.Path.{◌≡◌}
-use Prim.Native.Nat.{◌-◌, ◌<◌}
-use lib.ListN.{length, drop}
+use Rattle.std.proofs.Common.{◌≡◌, ◌<◌, length}
 use Rattle.cells.specs.Bytes.{cells_for, store_from}
 use Rattle.cells.proofs.bytes.store_rest.Given as goal
 
-abbrev pub invariant-loop-done : goal.invariant-loop-done
-invariant-loop-done l =
-    (l.done < length l.frame) × (l.at < l.n) × (length l.cells ≡ length l.initial.cells)
-    × (store_from l.n l.links (cells_for (length l.frame - l.done)) l.at (drop l.done l.frame) l.cells ≡ store_from l.n l.links (cells_for (length l.frame - 72)) l.c (drop 72 l.frame) l.initial.cells)
+abbrev pub invariant-loop-rest : goal.invariant-loop-rest
+invariant-loop-rest l =
+    (0 < length l.rest) × (l.at < l.n.number) × (length l.cells ≡ length l.initial.cells)
+    × (store_from l.n.number l.links (cells_for (length l.rest)) l.at l.rest l.cells ≡ store_from l.n.number l.links (cells_for (length l.bytes)) l.c l.bytes l.initial.cells)
 
-abbrev pub decreases-loop-done : goal.decreases-loop-done
-decreases-loop-done l = length l.frame - l.done
+abbrev pub decreases-loop-rest : goal.decreases-loop-rest
+decreases-loop-rest l = length l.rest

@@ -1,19 +1,18 @@
 -- `departure::leaving::depart` meets its contract.
+use mathlib.Core.Path.{sym, ap, ◌∙◌}
+use Prim.Native.Nat.{◌%◌}
 use native.Mathlib.Omega.{arith}
-use Rattle.departure.proofs.Copies.{leaves, left_here}
+use Rattle.departure.proofs.Copies.{leaves, given}
 use Rattle.departure.proofs.leaving.depart.Goals as goal
 
-pub last-last-requires : goal.last-last-requires
-last-last-requires c = let f = leaves c.args.n c.args.port c.args.c c.args.links.now c.requires.links_value in (omega arith, f.below, f.frame)
-
-pub word-requires : goal.word-requires
-word-requires c = omega (arith, leaves c.args.n c.args.port c.args.c c.args.links.now c.requires.links_value)
-
-pub depart_from-requires : goal.depart_from-requires
-depart_from-requires c =
-    let word = c.word in
-    let left = c.turned-left in
+pub give_back-requires : goal.give_back-requires
+give_back-requires c =
+    let r = c.requires.links_value in
+    let g = given c.args.n.number c.args.port.number c.args.c c.args.links.now c.args.port.there r.0 (ap (◌% 32) (sym r.2) ∙ c.if-ports-eq0.true) in
     record {
-      n_in_bounds = (omega arith, omega arith, omega arith);
-      links_value = (c.requires.links_value, c.last-last.ensures.0, left_here c.args.port c.args.c c.args.links.now word.result left.result (omega arith) word.ensures left.ensures (leaves c.args.n c.args.port c.args.c c.args.links.now c.requires.links_value).waits);
+      n_in_bounds = (omega arith, (leaves c.args.n.number c.args.port.number c.args.c c.args.links.now r.0).below, g.0);
+      last_value = (r.1, r.2 ∙ g.1);
     }
+
+pub set_word-requires : goal.set_word-requires
+set_word-requires c = omega (arith, leaves c.args.n.number c.args.port.number c.args.c c.args.links.now c.requires.links_value.0)

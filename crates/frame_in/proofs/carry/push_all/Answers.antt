@@ -1,32 +1,19 @@
 -- `frame_in::carry::push_all` meets its contract.
-use Prim.Native.Nat.{ℕ, ◌+◌}
-use mathlib.Core.Path.{refl, sym, ap, ◌∙◌}
-use mathlib.Core.List.{List}
-use native.Mathlib.Omega.{arith}
-use borrow.Author.Rules.{rules}
-use Rattle.frame_in.specs.Carried.{each_port, enqueue_at}
-use Rattle.frame_in.proofs.Each.{ports_from, each_starts, each_turn, each_ends}
+use mathlib.Core.Path.{sym, ◌∙◌}
+use Rattle.frame_in.specs.Carried.{enqueue_at}
+use Rattle.frame_in.proofs.Each.{each_here, each_past}
 use Rattle.frame_in.proofs.carry.push_all.Goals as goal
+use Rattle.frame_in.proofs.carry.push_all.Goals.{then-bit, else-bit}
 
-pub loop-port-init : goal.loop-port-init
-loop-port-init c = (
-  omega arith,
-  refl,
-  each_starts (enqueue_at c.args.n c.args.queue c.args.first) c.args.left _,
-)
-
-pub loop-port-preserved : goal.loop-port-preserved
-loop-port-preserved c =
-    let a = c.args in
-    let f = enqueue_at a.n a.queue a.first in (
-      omega arith,
-      search rules,
-      ap (λ (l : List ℕ). each_port f (ports_from a.left (c.loop-port.port + 1)) l) c.push_if.ensures
-          ∙ each_turn f a.left c.loop-port.port c.loop-port.links (omega arith)
-          ∙ c.loop-port.invariant.2,
-    )
-
-pub returns : goal.returns
-returns c =
-    let a = c.args in
-    sym (each_ends (enqueue_at a.n a.queue a.first) a.left c.loop-port.port c.loop-port.links (omega arith)) ∙ c.loop-port.invariant.2
+pub loop-number-preserved : goal.loop-number-preserved
+loop-number-preserved c =
+    elim c.if-bit.branch [
+      | then-bit w ↦
+          rw (w.links-is, w.bump.ensures, w.push.ensures)
+          (each_here (enqueue_at c.args.n.number c.args.queue.number c.args.first) c.args.left c.loop-number.number c.loop-number.links c.loop-number-test.true (sym c.bit.ensures ∙ w.if-bit.true)
+          ∙ c.loop-number.invariant)
+      | else-bit w ↦
+          rw w.links-is
+          (each_past (enqueue_at c.args.n.number c.args.queue.number c.args.first) c.args.left c.loop-number.number c.loop-number.links c.loop-number-test.true (sym c.bit.ensures ∙ w.if-bit.false)
+          ∙ c.loop-number.invariant)
+    ]

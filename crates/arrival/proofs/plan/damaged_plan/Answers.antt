@@ -1,5 +1,0 @@
--- `arrival::plan::damaged_plan` meets its contract.
-use Rattle.arrival.proofs.plan.damaged_plan.Goals as goal
-
-pub returns : goal.returns
-returns c = rw (c.no_header.ensures, c.no_masks.ensures, c.no_lesson.ensures)

@@ -1,7 +1,0 @@
--- `settings::vlan::vlan_in_range` meets its contract, with the operation's test by its call.
-use Rattle.rules.specs.Arguments.{vlan_in_range, is_vid}
-use Rattle.settings.proofs.vlan.vlan_in_range.Goals as goal
-
-pub returns : goal.returns
-unfolding vlan_in_range is_vid
-returns c = rw c.operation_in_range.ensures
