@@ -9,17 +9,16 @@ ghost use Rattle.cells.specs.Bytes.{store_from, load_cells, load_from, cells_for
 ghost use Rattle.cells.specs.Stored.{stored_bytes};
 
 use crate::chains::{next, next_at};
-use crate::stored::{StoredHeader, write_header};
-use layout::cell_count::CellCount;
-use layout::{CELL_SIZE, FIRST_PART, STORED_HEADER};
+use crate::stored::StoredHeader;
+use layout::{CELL_SIZE, FIRST_PART, STORED_HEADER, below};
 
 // At least one byte into the cells from c on. Answers the next word of the last of them.
 #[tactic(auto, using(crate::proofs::Turns::store_goes_on, crate::proofs::Turns::store_ends))]
-fn store_rest(cells: &mut [u8], links: &[u32], n: CellCount, c: usize, bytes: &[u8]) -> u32
-    requires { (link_words n.number ≤ length links.now) × (cell_bytes n.number ≤ length cells.old) × (c < n.number)
+fn store_rest(cells: &mut [u8], links: &[u32], n: usize, c: usize, bytes: &[u8]) -> u32
+    requires { (link_words n ≤ length links.now) × (cell_bytes n ≤ length cells.old) × (c < n)
         × (0 < length bytes.now) }
     ensures { (result, cells.new)
-        ≡ store_from n.number links.now (cells_for (length bytes.now)) c bytes.now cells.old }
+        ≡ store_from n links.now (cells_for (length bytes.now)) c bytes.now cells.old }
 {
     let mut at = c;
     let mut rest = bytes;
@@ -39,19 +38,19 @@ fn store_rest(cells: &mut [u8], links: &[u32], n: CellCount, c: usize, bytes: &[
 pub fn store(
     cells: &mut [u8],
     links: &[u32],
-    n: CellCount,
+    n: usize,
     first: u32,
     header: StoredHeader,
     frame: &[u8],
 ) -> u32
-    requires { (link_words n.number ≤ length links.now) × (cell_bytes n.number ≤ length cells.old) × (first < n.number) }
+    requires { (link_words n ≤ length links.now) × (cell_bytes n ≤ length cells.old) × (first < n) }
     ensures { (result, cells.new)
-        ≡ store_from n.number links.now (rules.cells (length frame.now)) first
+        ≡ store_from n links.now (rules.cells (length frame.now)) first
         (stored_bytes header ++ frame.now) cells.old }
 {
     let i = first as usize;
     let a = CELL_SIZE * i;
-    write_header(cells, a, header);
+    header.write(cells, a);
     let after = links[next_at(i)];
     if frame.len() <= FIRST_PART {
         slices::copy(cells, a + STORED_HEADER, frame);
@@ -59,18 +58,18 @@ pub fn store(
     }
     slices::copy_block::<FIRST_PART>(cells, a + STORED_HEADER, frame, 0);
     let (_, rest) = frame.split_at(FIRST_PART);
-    store_rest(cells, links, n, n.below(after), rest)
+    store_rest(cells, links, n, below(after, n), rest)
 }
 
 // The bytes of the cells from c on, as many as out takes, at least one. Answers the last of these cells.
 #[inline(always)]
 #[tactic(auto, using(crate::proofs::Turns::walk_goes_on, crate::proofs::Turns::load_starts, crate::proofs::Turns::load_goes_on, crate::proofs::Turns::load_ends))]
-fn load_rest(cells: &[u8], links: &[u32], n: CellCount, c: usize, out: &mut [u8]) -> usize
-    requires { (link_words n.number ≤ length links.now) × (cell_bytes n.number ≤ length cells.now) × (c < n.number)
+fn load_rest(cells: &[u8], links: &[u32], n: usize, c: usize, out: &mut [u8]) -> usize
+    requires { (link_words n ≤ length links.now) × (cell_bytes n ≤ length cells.now) × (c < n)
         × (0 < length out.old) }
-    ensures value { (result ≡ walk n.number links.now (cells_for (length out.old) - 1) c) × (result < n.number) }
+    ensures value { (result ≡ walk n links.now (cells_for (length out.old) - 1) c) × (result < n) }
     ensures out_after { out.new
-        ≡ take (length out.old) (load_cells cells.now (follow n.number links.now (cells_for (length out.old)) c)) }
+        ≡ take (length out.old) (load_cells cells.now (follow n links.now (cells_for (length out.old)) c)) }
 {
     let mut cell = c;
     let mut done = 0;
@@ -92,19 +91,19 @@ fn load_rest(cells: &[u8], links: &[u32], n: CellCount, c: usize, out: &mut [u8]
 pub fn load(
     cells: &[u8],
     links: &[u32],
-    n: CellCount,
+    n: usize,
     first: u32,
     from: usize,
     long: usize,
     out: &mut [u8],
     at: usize,
 ) -> usize
-    requires n_in_bounds { (link_words n.number ≤ length links.now) × (cell_bytes n.number ≤ length cells.now) × (first < n.number) }
+    requires n_in_bounds { (link_words n ≤ length links.now) × (cell_bytes n ≤ length cells.now) × (first < n) }
     requires from_le_first_part { (from ≤ first_part) × (from ≤ long) × (at + (long - from) ≤ length out.old) }
-    ensures value { (result ≡ walk n.number links.now (rules.cells long - 1) first) × (result < n.number) }
+    ensures value { (result ≡ walk n links.now (rules.cells long - 1) first) × (result < n) }
     ensures out_after { out.new
         ≡ load_from from out.old cells.now at long
-        (follow n.number links.now (rules.cells long) first) }
+        (follow n links.now (rules.cells long) first) }
 {
     let i = first as usize;
     let a = CELL_SIZE * i + STORED_HEADER + from;
@@ -125,17 +124,17 @@ pub fn load(
 pub fn load_whole(
     cells: &[u8],
     links: &[u32],
-    n: CellCount,
+    n: usize,
     first: u32,
     long: usize,
     out: &mut [u8],
 ) -> usize
-    requires n_in_bounds { (link_words n.number ≤ length links.now) × (cell_bytes n.number ≤ length cells.now) × (first < n.number) }
+    requires n_in_bounds { (link_words n ≤ length links.now) × (cell_bytes n ≤ length cells.now) × (first < n) }
     requires long_in_bounds { long ≤ length out.old }
-    ensures value { (result ≡ walk n.number links.now (rules.cells long - 1) first) × (result < n.number) }
+    ensures value { (result ≡ walk n links.now (rules.cells long - 1) first) × (result < n) }
     ensures out_after { out.new
         ≡ load_from 0 out.old cells.now 0 long
-        (follow n.number links.now (rules.cells long) first) }
+        (follow n links.now (rules.cells long) first) }
 {
     load(cells, links, n, first, 0, long, out, 0)
 }

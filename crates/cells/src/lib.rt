@@ -4,4 +4,5 @@
 pub mod bytes;
 pub mod chains;
 pub mod free;
+pub mod sizes;
 pub mod stored;

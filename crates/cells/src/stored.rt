@@ -6,7 +6,6 @@ ghost use Rattle.cells.specs.Bytes.{header_in};
 ghost use Rattle.cells.specs.Stored.{stored_bytes, stored_of, stored_in_range};
 
 use layout::CELL_SIZE;
-use layout::cell_count::CellCount;
 use layout::numbers::{LONGEST, SHORTEST};
 use settings::operation::is_stored_word;
 
@@ -19,47 +18,49 @@ pub struct StoredHeader {
     pub operation: u32,
 }
 
-// Low bytes first.
-#[tactic(auto, using(crate::proofs::Headers::header_run))]
-pub fn write_header(cells: &mut [u8], at: usize, h: StoredHeader)
-    requires { at + 8 ≤ length cells.old }
-    ensures { cells.new ≡ sets cells.old at (stored_bytes h) }
-{
-    cells[at..at + 2].copy_from_slice(&h.length.to_le_bytes());
-    cells[at + 2..at + 4].copy_from_slice(&h.default.to_le_bytes());
-    cells[at + 4..at + 8].copy_from_slice(&h.operation.to_le_bytes());
-}
-
-// The stored header of the frame whose first cell is c.
-#[tactic(auto, using(crate::proofs::Headers::byte_in), unfolding(crate::specs::Stored::stored_of))]
-pub fn read_header(cells: &[u8], n: CellCount, c: u32) -> StoredHeader
-    requires { (cell_bytes n.number ≤ length cells.now) × (c < n.number) }
-    ensures { result ≡ stored_of (header_in cells.now c) }
-{
-    let a = CELL_SIZE * (c as usize);
-    StoredHeader {
-        length: u16::from_le_bytes([cells[a], cells[a + 1]]),
-        default: u16::from_le_bytes([cells[a + 2], cells[a + 3]]),
-        operation: u32::from_le_bytes([cells[a + 4], cells[a + 5], cells[a + 6], cells[a + 7]]),
-    }
-}
-
-const SHORTEST_LENGTH: u16 = SHORTEST as u16;
-
-const LONGEST_LENGTH: u16 = LONGEST as u16;
-
 // VID 1 to 4,094 stands on top of the default header: 16, and 4095 * 16.
 const DEFAULT_START: u16 = 16;
 
 const DEFAULT_END: u16 = 65520;
 
-#[tactic(auto, unfolding(crate::specs::Stored::stored_in_range))]
-pub fn in_range(h: StoredHeader) -> bool
-    ensures { result ≡ stored_in_range h }
-{
-    (SHORTEST_LENGTH <= h.length)
-        & (h.length <= LONGEST_LENGTH)
-        & (DEFAULT_START <= h.default)
-        & (h.default < DEFAULT_END)
-        & is_stored_word(h.operation)
+const SHORTEST_LENGTH: u16 = SHORTEST as u16;
+
+const LONGEST_LENGTH: u16 = LONGEST as u16;
+
+impl StoredHeader {
+    // Low bytes first.
+    #[tactic(auto, using(crate::proofs::Headers::header_run))]
+    pub fn write(self, cells: &mut [u8], at: usize)
+        requires { at + 8 ≤ length cells.old }
+        ensures { cells.new ≡ sets cells.old at (stored_bytes self) }
+    {
+        cells[at..at + 2].copy_from_slice(&self.length.to_le_bytes());
+        cells[at + 2..at + 4].copy_from_slice(&self.default.to_le_bytes());
+        cells[at + 4..at + 8].copy_from_slice(&self.operation.to_le_bytes());
+    }
+
+    // That of the frame whose first cell is c.
+    #[tactic(auto, using(crate::proofs::Headers::byte_in), unfolding(crate::specs::Stored::stored_of))]
+    pub fn read(cells: &[u8], n: usize, c: u32) -> StoredHeader
+        requires { (cell_bytes n ≤ length cells.now) × (c < n) }
+        ensures { result ≡ stored_of (header_in cells.now c) }
+    {
+        let a = CELL_SIZE * (c as usize);
+        StoredHeader {
+            length: u16::from_le_bytes([cells[a], cells[a + 1]]),
+            default: u16::from_le_bytes([cells[a + 2], cells[a + 3]]),
+            operation: u32::from_le_bytes([cells[a + 4], cells[a + 5], cells[a + 6], cells[a + 7]]),
+        }
+    }
+
+    #[tactic(auto, unfolding(crate::specs::Stored::stored_in_range))]
+    pub fn in_range(self) -> bool
+        ensures { result ≡ stored_in_range self }
+    {
+        (SHORTEST_LENGTH <= self.length)
+            & (self.length <= LONGEST_LENGTH)
+            & (DEFAULT_START <= self.default)
+            & (self.default < DEFAULT_END)
+            & is_stored_word(self.operation)
+    }
 }

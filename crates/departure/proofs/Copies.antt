@@ -11,7 +11,9 @@ use Rattle.std.specs.Prelude.{Some as some, None as none}
 use Rattle.rules.specs.Arguments.{bit}
 use Rattle.rules.proofs.Choice.{on, and_left, and_right, and_false}
 use Rattle.layout.specs.Places.{frame_word}
+use Rattle.layout.specs.Same.{QueuesSame}
 use Rattle.cells.specs.Free.{word_of, size_of, ports_of, is_frame, can_give_back, given_back}
+use Rattle.cells.proofs.Apart.{given_queues, ports_queues}
 use Rattle.departure.specs.Leaving.{is_last, turned, has_room, can_leave, word_left, departed}
 use Rattle.departure.proofs.Turns.{bit_le, turned_waits, less_waits, more_absent}
 
@@ -115,3 +117,12 @@ module _ (n port c : ℕ) (l : List ℕ) where
     pub departed_other : ((word_of l c - 2 ^ port) % 32 ≡ 0 → ⊥) → set l (frame_word c) (word_of l c - 2 ^ port) ≡ departed n port c l
     unfolding departed
     departed_other e = rw (some_left port c l known (leaves n port c l copy).waits e)
+
+-- ---- a frame's leaving alone changes no word of a queue
+
+pub departed_queues : (n port c : ℕ) (l : List ℕ) → QueuesSame l (departed n port c l)
+unfolding departed
+departed_queues n port c l =
+    on (is_last port c l)
+    (λ e. rw e (given_queues n c l))
+    (λ e. rw e (ports_queues c l (word_of l c - 2 ^ port)))

@@ -7,7 +7,7 @@ use native.Mathlib.Omega.{arith}
 use Rattle.std.proofs.lemmas.Grind.{common_steps}
 use lib.Dec.{eqb}
 use borrow.Author.Tests.{eq-eqb, ne_eqb, eqb-true, le-leb}
-use Rattle.rules.specs.Cells.{cells}
+use Rattle.rules.specs.Cells.{cells, longest}
 use Rattle.rules.specs.Tags.{Tag, header_of}
 use Rattle.rules.specs.Operations.{Origin, Operation, on_stack, operate, leaving_tags}
 use Rattle.rules.specs.Arguments.{operation_of, kind_of, source_of}
@@ -66,6 +66,9 @@ module _ (h : StoredHeader) where
     operation_fits_law f e = rw e at f
 
 -- ---- what they say
+
+pub length_in_range : (h : StoredHeader) → stored_in_range h ≡ true → h.length ≤ longest
+length_in_range h e = (in_range h e).longest
 
 pub record Header (h : StoredHeader) (port c : ℕ) (links : List ℕ) : Type 0 where
   pub short : 60 ≤ h.length

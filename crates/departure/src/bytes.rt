@@ -14,7 +14,7 @@ ghost use Rattle.departure.specs.Departing.{frame_bytes, leaving_bytes, leaving_
 
 use crate::departing::{Departing, operation_word};
 use cells::bytes::{load, load_whole};
-use cells::stored::read_header;
+use cells::stored::StoredHeader;
 use layout::numbers::SHORTEST;
 use layout::{CELL_SIZE, STORED_HEADER};
 use rules::operations::{Kind, Source};
@@ -110,7 +110,7 @@ impl<'a> Departing<'a> {
         ensures new_tags { stack_is result ≡ leaving_tags_of self.entry (stack_is tags) }
         ensures few { result.count ≤ tags.count + 2 }
     {
-        let header = read_header(self.cells, self.n, self.c);
+        let header = StoredHeader::read(self.cells, self.n.number, self.c);
         if is_exempt(header.operation) {
             return tags;
         }
@@ -164,7 +164,7 @@ impl<'a> Departing<'a> {
         ensures { Wrote self.entry out.old result out.new }
     {
         let long = self.long;
-        let last = load_whole(self.cells, self.links, self.n, self.c, long, out);
+        let last = load_whole(self.cells, self.links, self.n.number, self.c, long, out);
         Written { long, last }
     }
 
@@ -176,7 +176,14 @@ impl<'a> Departing<'a> {
     {
         let front = self.write_front(out);
         let last = load(
-            self.cells, self.links, self.n, self.c, front.from, self.long, out, front.at,
+            self.cells,
+            self.links,
+            self.n.number,
+            self.c,
+            front.from,
+            self.long,
+            out,
+            front.at,
         );
         let long = pad(out, front.at + (self.long - front.from));
         Written { long, last }

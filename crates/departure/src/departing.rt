@@ -7,11 +7,12 @@ ghost use Rattle.settings.specs.Records.{port_operation_at};
 ghost use Rattle.departure.specs.Frames as spec;
 
 use crate::leaving::left_of_word;
-use cells::stored::{StoredHeader, in_range, read_header};
+use cells::sizes::cells_of;
+use cells::stored::StoredHeader;
 use layout::cell_count::CellCount;
 use layout::damage::Damaged;
 use layout::ports::Port;
-use layout::{CELL_SIZE, PORT_OPERATION, PORT_STRIDE, SIZE_UNIT, STORED_HEADER};
+use layout::{PORT_OPERATION, PORT_STRIDE, SIZE_UNIT};
 use settings::operation::{OperationWord, TYPE, is_exempt};
 
 // Its first cell is c, and all that is met of it is in range.
@@ -43,21 +44,17 @@ pub fn operation_word(links: &[u32], port: Port) -> u32
     links[PORT_OPERATION + PORT_STRIDE * port.index()]
 }
 
-// To round a length with its header up to cells.
-const ROUND_UP: usize = STORED_HEADER + CELL_SIZE - 1;
-
 // Is the stored header in range, and does it fit the frame's cells? `own` is the word of the departing port's
 // operation, `word` the frame word.
 #[inline(always)]
-#[tactic(auto, unfolding(crate::specs::Frames::header_fits))]
+#[tactic(auto, using(crate::proofs::Headers::length_in_range), unfolding(crate::specs::Frames::header_fits))]
 fn header_fits(h: StoredHeader, own: u32, word: u32) -> bool
     ensures { (port c : ℕ) (links : List ℕ) → own ≡ port_operation_at links port → word ≡ word_of links c
         → result ≡ spec.header_fits h port c links }
 {
-    // "The least whole number of cells holding n + 8 bytes." It is no more than 52, so that no other bit of the word is
-    // set.
-    in_range(h)
-        && (word / SIZE_UNIT) as usize == (h.length as usize + ROUND_UP) / CELL_SIZE
+    // The size is no more than 52, so that no other bit of the word is set.
+    h.in_range()
+        && (word / SIZE_UNIT) as usize == cells_of(h.length as usize)
         && (is_exempt(h.operation) || OperationWord::try_from(own).is_ok())
 }
 
@@ -78,9 +75,9 @@ impl<'a> Departing<'a> {
             × (copy.port.number ≡ port.number) × (copy.c ≡ c))
             (λ _. spec.can_send cells.now n.number port.number c links.now ≡ false) }
     {
-        let header = read_header(cells, n, c);
+        let header = StoredHeader::read(cells, n.number, c);
         let own = operation_word(links, port);
-        let word = cells::free::word(links, n, c);
+        let word = cells::free::word(links, n.number, c);
         if !header_fits(header, own, word) {
             return Err(Damaged);
         }

@@ -4,7 +4,7 @@ ghost use Rattle.rules.specs.Cells.{most_cells};
 ghost use Rattle.layout.specs.Places.{link_words};
 ghost use Rattle.departure.specs.Draining as spec;
 
-use crate::leaving::{depart, leave, word_left};
+use crate::leaving::{depart_from, leave, word_left};
 use layout::cell_count::CellCount;
 use layout::ports::{Port, Queue};
 use rules::counters::Counter;
@@ -15,7 +15,7 @@ fn all_can_leave(links: &[u32], n: CellCount, port: Port, queue: Queue) -> bool
     requires { link_words n.number ≤ length links.now }
     ensures { result ≡ spec.all_from_oldest n.number port.number queue.number links.now }
 {
-    let mut c = queues::oldest(links, n, port, queue);
+    let mut c = queues::oldest(links, n.number, port, queue);
     for _ in 0..n.number {
         if word_left(links, n, port, c as u32).is_none() {
             return false;
@@ -23,7 +23,7 @@ fn all_can_leave(links: &[u32], n: CellCount, port: Port, queue: Queue) -> bool
         if queues::is_youngest(links, port, queue, c) {
             return true;
         }
-        c = queues::behind(links, n, port, c);
+        c = queues::behind(links, n.number, port, c);
     }
     true
 }
@@ -60,8 +60,8 @@ fn drop_copy(links: &mut [u32], n: CellCount, port: Port, c: u32)
     ensures { links.new ≡ spec.dropped n.number port.number c links.old }
 {
     if let Some(left) = word_left(links, n, port, c) {
-        let last = cells::free::last(links, n, c);
-        depart(links, n, port, c, last, left);
+        let last = cells::free::last(links, n.number, c);
+        depart_from(links, n, port, c, last, left);
     }
 }
 
@@ -71,7 +71,7 @@ fn drain_one(links: &mut [u32], n: CellCount, port: Port, queue: Queue)
     requires { link_words n.number ≤ length links.old }
     ensures { links.new ≡ spec.drain_one n.number port.number queue.number links.old }
 {
-    let c = queues::oldest(links, n, port, queue) as u32;
+    let c = queues::oldest(links, n.number, port, queue) as u32;
     drop_copy(links, n, port, c);
     leave(links, n, port, queue, c, Counter::Drained);
 }

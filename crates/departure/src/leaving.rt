@@ -35,7 +35,7 @@ pub fn left_of_word(links: &[u32], n: CellCount, port: Port, c: u32, word: u32) 
         if left % SIZE_UNIT != 0 {
             return Some(left);
         }
-        if cells::free::can_give_back(links, n, c, left / SIZE_UNIT) {
+        if cells::free::can_give_back(links, n.number, c, left / SIZE_UNIT) {
             return Some(left);
         }
     }
@@ -51,8 +51,8 @@ pub fn word_left(links: &[u32], n: CellCount, port: Port, c: u32) -> Option<u32>
     if n.number <= c as usize {
         return None;
     }
-    if cells::free::is_frame(links, n, c) {
-        left_of_word(links, n, port, c, cells::free::word(links, n, c))
+    if cells::free::is_frame(links, n.number, c) {
+        left_of_word(links, n, port, c, cells::free::word(links, n.number, c))
     } else {
         None
     }
@@ -61,7 +61,7 @@ pub fn word_left(links: &[u32], n: CellCount, port: Port, c: u32) -> Option<u32>
 // "A frame is stored once however many ports it waits at. Its cells are free when its last copy is sent or drained."
 // Its last cell is `last`, and its word becomes `left`.
 #[tactic(auto, using(crate::proofs::Copies::departed_last, crate::proofs::Copies::departed_other))]
-pub fn depart(links: &mut [u32], n: CellCount, port: Port, c: u32, last: usize, left: u32)
+pub fn depart_from(links: &mut [u32], n: CellCount, port: Port, c: u32, last: usize, left: u32)
     requires n_in_bounds { link_words n.number ≤ length links.old }
     requires links_value { (spec.can_leave n.number port.number c links.old ≡ true)
         × (last ≡ last_cell n.number links.old c) × (left ≡ word_of links.old c - 2 ^ port.number) }
@@ -69,9 +69,9 @@ pub fn depart(links: &mut [u32], n: CellCount, port: Port, c: u32, last: usize, 
 {
     let ports = left % SIZE_UNIT;
     if ports == 0 {
-        cells::free::give_back(links, n, c, last, left);
+        cells::free::give_back(links, n.number, c, last, left);
     } else {
-        cells::free::set_word(links, n, c, left);
+        cells::free::set_word(links, n.number, c, left);
     }
 }
 
@@ -82,6 +82,6 @@ pub fn leave(links: &mut [u32], n: CellCount, port: Port, queue: Queue, c: u32, 
     requires { (link_words n.number ≤ length links.old) × (c < n.number) }
     ensures { links.new ≡ spec.left port.number queue.number c counter links.old }
 {
-    queues::pop_oldest(links, n, port, queue, c as usize);
-    layout::counter::bump(links, port, counter);
+    queues::pop_oldest(links, n.number, port, queue, c as usize);
+    layout::counter::count(links, port, counter);
 }

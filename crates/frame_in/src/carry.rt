@@ -9,13 +9,13 @@ ghost use Rattle.frame_in.specs.Carried.{enqueue_at, lesson_by, join_at, carried
 
 use addresses::{learn, mark};
 use arrival::plan::{Lesson, Masks, Offer, Plan};
-use arrival::room::cells_of;
 use cells::bytes::store;
 use cells::free::take_cells;
+use cells::sizes::cells_of;
 use layout::answers::Done;
 use layout::bits::{bit, less};
 use layout::cell_count::CellCount;
-use layout::counter::bump;
+use layout::counter::count as count_one;
 use layout::numbers::PLACES;
 use layout::ports::{Port, Queue};
 use rules::counters::Counter;
@@ -32,7 +32,7 @@ fn count_each(links: &mut [u32], mask: u32, counter: Counter)
     }
     for number in 0..5 {
         if bit(mask, number) {
-            bump(links, Port { number }, counter);
+            count_one(links, Port { number }, counter);
         }
     }
 }
@@ -72,8 +72,8 @@ fn push_all(links: &mut [u32], n: CellCount, left: u32, queue: Queue, first: u32
     for number in 0..5 {
         if bit(left, number) {
             let port = Port { number };
-            queues::push(links, n, port, queue, first);
-            bump(links, port, Counter::Queued);
+            queues::push(links, n.number, port, queue, first);
+            count_one(links, port, Counter::Queued);
         }
     }
 }
@@ -88,8 +88,8 @@ fn join(cells: &mut [u8], links: &mut [u32], n: CellCount, frame: &[u8], offer: 
     let left = offer.masks.left;
     let k = cells_of(frame.len());
     let first = links[layout::FIRST_FREE];
-    let after = store(cells, links, n, first, offer.header, frame);
-    take_cells(links, n, k, left, after);
+    let after = store(cells, links, n.number, first, offer.header, frame);
+    take_cells(links, n.number, k, left, after);
     push_all(links, n, left, offer.queue, first);
 }
 
@@ -112,7 +112,7 @@ fn count_if(links: &mut [u32], port: Port, unlearned: bool)
     ensures { links.new ≡ count_if unlearned port.number links.old }
 {
     if unlearned {
-        bump(links, port, Counter::NotLearned);
+        count_one(links, port, Counter::NotLearned);
     }
 }
 
@@ -123,10 +123,10 @@ fn count(links: &mut [u32], port: Port, unlearned: bool, masks: Masks, outcome: 
     requires { fixed_words ≤ length links.old }
     ensures { links.new ≡ counted_with outcome port.number unlearned masks links.old }
 {
-    bump(links, port, Counter::Offered);
+    count_one(links, port, Counter::Offered);
     count_if(links, port, unlearned);
     count_falls(links, masks);
-    bump(links, port, outcome);
+    count_one(links, port, outcome);
 }
 
 // Cells and queues come last, so that the compiler has little to keep while a frame is stored.

@@ -1,13 +1,15 @@
 // What happens to a frame, in the order of the table of reasons: nothing is written.
-ghost use Rattle.std.specs.Prelude.{◌≡◌};
+ghost use Rattle.std.specs.Prelude.{◌≡◌, ◌≤◌, length};
+ghost use Rattle.rules.specs.Cells.{shortest};
+ghost use Rattle.rules.specs.Tags.{destination, source};
+ghost use Rattle.rules.specs.Addresses.{key};
+ghost use Rattle.arrival.specs.Candidates.{destination_look_up};
 ghost use Rattle.arrival.specs.Plans.{no_masks};
 ghost use Rattle.frame_in.specs.Judged.{At, Lent, Judged};
 ghost use Rattle.frame_in.specs.Stages.{PastEarly, NoBpdu, Ordinary, AsBpdu, InEntry, Member, Tested};
 
-use addresses::look_up;
-use arrival::candidates::{
-    MANAGEMENT, candidates, chosen, destination_look_up, masks_of, source_key,
-};
+use addresses::{Key, LookUp, key_of, look_up};
+use arrival::candidates::{MANAGEMENT, candidates, chosen, destination_look_up, masks_of};
 use arrival::entering::{Arrival, absent, arrival_of, early, is_bpdu};
 use arrival::plan::{Lesson, Masks, Offer, Plan};
 use arrival::room::offered_plan;
@@ -26,9 +28,30 @@ use settings::states::StatesWord;
 use settings::switches::SwitchesWord;
 use settings::table::find_vlan;
 use settings::vlan::{Entry, read_entry};
+use tags::reading::address_at;
 
 // "The one candidate 4, queue 3, no tag operation at all": that queue.
 const BPDU_QUEUE: Queue = Queue { number: 3 };
+
+// What the destination's look-up finds.
+#[inline(always)]
+#[tactic(auto, unfolding(rules::specs::Tags::destination))]
+fn destination_found(addresses: &[u64; PLACES], gid: u32, frame: &[u8]) -> Result<LookUp, Damaged>
+    requires { (gid ≤ 15) × (shortest ≤ length frame.now) }
+    ensures { result ≡ destination_look_up addresses.now gid (destination frame.now) }
+{
+    destination_look_up(addresses, gid, address_at(frame, 0))
+}
+
+// The key by which the source is learned.
+#[inline(always)]
+#[tactic(auto, unfolding(rules::specs::Tags::source))]
+fn source_key(gid: u32, frame: &[u8]) -> Key
+    requires { (gid ≤ 15) × (shortest ≤ length frame.now) }
+    ensures { result.number ≡ key gid (source frame.now) }
+{
+    key_of(gid, address_at(frame, 6))
+}
 
 // Dropped before a port is tested.
 fn untested(reason: Reason, lesson: Option<Lesson>) -> Plan
@@ -66,7 +89,7 @@ impl Arriving<'_> {
         if offer.masks.candidates == 0 {
             return Ok(untested(Reason::NoCandidate, lesson));
         }
-        offered_plan(self.links, self.n, self.frame.len(), lesson, offer)
+        offered_plan(self.links, self.n.number, self.frame.len(), lesson, offer)
     }
 
     // Past 9: "looked up before the source is learned".
@@ -75,7 +98,7 @@ impl Arriving<'_> {
         requires { At Member self arrival vlan }
         ensures { At Judged self.entry result }
     {
-        let destination = destination_look_up(self.addresses, vlan.gid, self.frame)?;
+        let destination = destination_found(self.addresses, vlan.gid, self.frame)?;
         let key = source_key(vlan.gid, self.frame);
         let source = look_up(self.addresses, key)?;
         let switches = SwitchesWord::try_from(self.links[SWITCHES])?;
@@ -150,7 +173,7 @@ impl Arriving<'_> {
             queue: BPDU_QUEUE,
             header,
         };
-        offered_plan(self.links, self.n, self.frame.len(), None, offer)
+        offered_plan(self.links, self.n.number, self.frame.len(), None, offer)
     }
 
     // No BPDU.

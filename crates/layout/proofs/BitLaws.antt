@@ -1,11 +1,11 @@
 -- The bits of a number: of joined numbers, of a power of two, behind a shift; numbers with the same bits are equal; one bit written.
 -- Assumes nothing.
-use Rattle.std.proofs.Common.{◌≡◌, ℕ, zero, suc, ◌+◌, ◌/◌, ◌%◌, ◌^◌, ◌<◌, Bool, true, false, not, ◌&&◌, ◌||◌, eqb, min, max, sym, refl, ap, ◌∙◌, arith, shr-shr, eq-eqb, ne_eqb, eqb-true}
+use Rattle.std.proofs.Common.{◌≡◌, ℕ, zero, suc, ◌+◌, ◌-◌, ◌/◌, ◌%◌, ◌^◌, ◌<◌, Bool, true, false, not, ◌&&◌, ◌||◌, eqb, min, max, sym, refl, ap, ◌∙◌, arith, w32, shr-shr, eq-eqb, ne_eqb, eqb-true}
 use Rattle.std.specs.Int.{bit_at}
-use Rattle.std.proofs.lemmas.Nat.Bits.{bit_at-lt, bit_at-zero, bit_at_and, bit_at_or, bit_at_xor, bit_at-pow_same, bit_at-pow_other, same_from_bits, same_from_bits_below}
+use Rattle.std.proofs.lemmas.Nat.Bits.{bit_at-lt, bit_at-zero, bit_at_and, bit_at_or, bit_at_not, bit_at_xor, bit_at-pow_same, bit_at-pow_other, same_from_bits, same_from_bits_below}
 use native.Mathlib.Decide.{dec_lt}
 use lib.Pow.{pow-lt}
-use lib.Bits.{bit_and, bit_or, and_lt, or_lt, xor_lt}
+use lib.Bits.{bit_and, bit_or, bit_xor, and_lt, or_lt, xor_lt}
 use borrow.Author.Tests.{eqb-false}
 use Rattle.rules.proofs.Choice.{on, and_left, and_right}
 use Rattle.std.specs.Prelude.{if◌then◌else◌}
@@ -43,6 +43,16 @@ module _ (a b i : ℕ) where
   bit_less =
       ap (λ (x : ℕ). eqb x 1) (bit_at_xor a (bit_and a b) i ∙ ap (λ (x : ℕ). (bit_at a i + x) % 2) (bit_at_and a b i))
       ∙ at_place (λ x y. eqb ((x + min x y) % 2) 1 ≡ (eqb x 1 && not (eqb y 1))) refl refl refl refl a b i
+
+-- the same of a word of 32 bits, as the code has it
+pub less_of_word : (a b : ℕ) → a < 2 ^ 32 → b < 2 ^ 32 → bit_and a (4294967295 - b) ≡ less a b
+unfolding less
+less_of_word a b ha hb =
+    same_from_bits_below 32 (bit_and a (4294967295 - b)) (bit_xor a (bit_and a b)) (and_lt 32 a (4294967295 - b) ha (omega arith))
+    (xor_lt 32 a (bit_and a b) ha (and_lt 32 a b ha hb))
+    (λ i h. bit_at_and a (4294967295 - b) i ∙ ap (λ (x : ℕ). min (bit_at a i) x) (bit_at_not w32 b i hb h)
+    ∙ at_place (λ x y. min x (1 - y) ≡ (x + min x y) % 2) refl refl refl refl a b i
+    ∙ sym (bit_at_xor a (bit_and a b) i ∙ ap (λ (x : ℕ). (bit_at a i + x) % 2) (bit_at_and a b i)))
 
 pub bit_shift : (n k i : ℕ) → bit (n / 2 ^ k) i ≡ bit n (k + i)
 unfolding bit

@@ -20,11 +20,11 @@ pub fn power(i: u32) -> u32
 }
 
 // The bits of a that b lacks.
-#[tactic(auto, unfolding(crate::specs::Bits::less))]
+#[tactic(auto, using(crate::proofs::BitLaws::less_of_word))]
 pub fn less(a: u32, b: u32) -> u32
     ensures { result ≡ less a b }
 {
-    a ^ (a & b)
+    a & !b
 }
 
 #[tactic(auto, unfolding(crate::specs::Bits::with_bit))]

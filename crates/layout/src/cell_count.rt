@@ -1,8 +1,7 @@
 // How many cells there are.
-ghost use Rattle.std.specs.Prelude.{◌≡◌, true, ◌<◌, ◌≤◌};
+ghost use Rattle.std.specs.Prelude.{◌≡◌, true, ◌≤◌};
 ghost use Rattle.rules.specs.Cells.{most_cells};
 ghost use Rattle.layout.specs.Lengths.{cell_count, links_fit};
-ghost use Rattle.layout.specs.Cells.{clamped};
 
 use crate::CELL_COUNT;
 
@@ -11,18 +10,6 @@ pub struct CellCount {
     pub number: usize,
     pub ghost some: { 1 ≤ number },
     pub ghost most: { number ≤ most_cells },
-}
-
-impl CellCount {
-    // A cell number from the count on stands for 0: a word that names the cell after another is read so, whatever it
-    // holds.
-    #[tactic(auto, unfolding(crate::specs::Cells::clamped))]
-    pub fn below(self, cell: u32) -> usize
-        ensures { (result ≡ clamped self.number cell) × (result < self.number) }
-    {
-        let i = cell as usize;
-        if i < self.number { i } else { 0 }
-    }
 }
 
 // That of link memory which has the length that its fresh call got.

@@ -15,10 +15,18 @@ pub fn counter(links: &[u32], port: Port, number: usize) -> u32
     links[COUNTER + PORT_STRIDE * port.index() + number]
 }
 
-pub fn bump(links: &mut [u32], port: Port, counter: Counter)
+pub fn bump(links: &mut [u32], port: Port, number: usize)
+    requires { (number < 32) × (fixed_words ≤ length links.old) }
+    ensures { links.new ≡ bumped port.number number links.old }
+{
+    let at = COUNTER + PORT_STRIDE * port.index() + number;
+    links[at] = links[at].wrapping_add(1);
+}
+
+#[inline(always)]
+pub fn count(links: &mut [u32], port: Port, counter: Counter)
     requires { fixed_words ≤ length links.old }
     ensures { links.new ≡ bumped port.number (counter_number counter) links.old }
 {
-    let at = COUNTER + PORT_STRIDE * port.index() + u32::from(counter) as usize;
-    links[at] = links[at].wrapping_add(1);
+    bump(links, port, u32::from(counter) as usize);
 }

@@ -2,6 +2,9 @@
 // word and i of its strides.
 #![tactic(auto)]
 
+ghost use Rattle.std.specs.Prelude.{◌≡◌, ◌≤◌, ◌<◌};
+ghost use Rattle.layout.specs.Cells.{clamped};
+
 pub mod numbers; // the numbers of docs/RULES.md
 pub mod ports; // a port, a queue
 pub mod cell_count; // how many cells there are
@@ -71,3 +74,13 @@ pub const CELL_SIZE: usize = 80;
 pub const STORED_HEADER: usize = 8;
 
 pub const FIRST_PART: usize = CELL_SIZE - STORED_HEADER;
+
+// A cell number from n on stands for 0: a word that names the cell after another is read so, whatever it holds.
+#[tactic(auto, unfolding(crate::specs::Cells::clamped))]
+pub fn below(cell: u32, n: usize) -> usize
+    requires { 1 ≤ n }
+    ensures { (result ≡ clamped n cell) × (result < n) }
+{
+    let i = cell as usize;
+    if i < n { i } else { 0 }
+}

@@ -3,16 +3,14 @@
 // in memory stands for 0.
 #![tactic(auto)]
 
-ghost use Rattle.std.specs.Prelude.{◌≡◌, ◌+◌, ◌≤◌, ◌<◌, length, option_map};
-ghost use Rattle.rules.specs.Cells.{most_cells};
+ghost use Rattle.std.specs.Prelude.{◌≡◌, ◌+◌, ◌^◌, ◌≤◌, ◌<◌, length, option_map};
 ghost use Rattle.layout.specs.Places as places;
 ghost use Rattle.layout.specs.Places.{link_words};
 ghost use Rattle.queues.specs.Lists as spec;
 
 use layout::bits::{bit, with_bit};
-use layout::cell_count::CellCount;
 use layout::ports::{Port, Queue};
-use layout::{BEHIND, CELL_STRIDE, OLDEST, PORT_STRIDE, QUEUE_STRIDE, WAITING, YOUNGEST};
+use layout::{BEHIND, CELL_STRIDE, OLDEST, PORT_STRIDE, QUEUE_STRIDE, WAITING, YOUNGEST, below};
 
 // Where a port's word of the queues that wait stands, a queue's oldest and youngest frame, and the frame behind one.
 fn waiting_at(port: Port) -> usize
@@ -34,7 +32,7 @@ fn youngest_at(port: Port, queue: Queue) -> usize
 }
 
 fn behind_at(port: Port, cell: usize) -> usize
-    requires { cell < most_cells }
+    requires { places.behind_word port.number cell < 2 ^ 64 }
     ensures { result ≡ places.behind_word port.number cell }
 {
     BEHIND + port.index() + CELL_STRIDE * cell
@@ -79,11 +77,11 @@ pub fn oldest_word(links: &[u32], port: Port, queue: Queue) -> u32
 }
 
 // The first cell of a queue's oldest frame, if the queue waits.
-pub fn oldest(links: &[u32], n: CellCount, port: Port, queue: Queue) -> usize
-    requires { link_words n.number ≤ length links.now }
-    ensures { (result ≡ spec.oldest_cell n.number links.now port.number queue.number) × (result < n.number) }
+pub fn oldest(links: &[u32], n: usize, port: Port, queue: Queue) -> usize
+    requires { (link_words n ≤ length links.now) × (1 ≤ n) }
+    ensures { (result ≡ spec.oldest_cell n links.now port.number queue.number) × (result < n) }
 {
-    n.below(oldest_word(links, port, queue))
+    below(oldest_word(links, port, queue), n)
 }
 
 // Is a frame the youngest of its queue?
@@ -96,11 +94,11 @@ pub fn is_youngest(links: &[u32], port: Port, queue: Queue, cell: usize) -> bool
 }
 
 // The frame behind one of a queue, if it is not the youngest.
-pub fn behind(links: &[u32], n: CellCount, port: Port, cell: usize) -> usize
-    requires { (link_words n.number ≤ length links.now) × (cell < n.number) }
-    ensures { (result ≡ spec.behind_cell n.number links.now port.number cell) × (result < n.number) }
+pub fn behind(links: &[u32], n: usize, port: Port, cell: usize) -> usize
+    requires { (link_words n ≤ length links.now) × (cell < n) }
+    ensures { (result ≡ spec.behind_cell n links.now port.number cell) × (result < n) }
 {
-    n.below(links[behind_at(port, cell)])
+    below(links[behind_at(port, cell)], n)
 }
 
 // The highest-numbered queue that waits at a port.
@@ -119,15 +117,15 @@ pub fn highest_waiting(links: &[u32], port: Port) -> Option<Queue>
 
 // A frame joins a queue: behind the youngest, or as the first.
 #[tactic(auto, unfolding(crate::specs::Lists::pushed))]
-pub fn push(links: &mut [u32], n: CellCount, port: Port, queue: Queue, cell: u32)
-    requires { link_words n.number ≤ length links.old }
-    ensures { links.new ≡ spec.pushed n.number port.number queue.number cell links.old }
+pub fn push(links: &mut [u32], n: usize, port: Port, queue: Queue, cell: u32)
+    requires { (link_words n ≤ length links.old) × (1 ≤ n) }
+    ensures { links.new ≡ spec.pushed n port.number queue.number cell links.old }
 {
     let at = waiting_at(port);
     let youngest = youngest_at(port, queue);
     let waiting = links[at];
     if bit(waiting, queue.number) {
-        let last = n.below(links[youngest]);
+        let last = below(links[youngest], n);
         links[behind_at(port, last)] = cell;
         links[youngest] = cell;
         return;
@@ -139,8 +137,8 @@ pub fn push(links: &mut [u32], n: CellCount, port: Port, queue: Queue, cell: u32
 
 // The oldest frame of a queue, whose first cell the caller has, leaves it. The words that it stood in keep its number.
 #[tactic(auto, unfolding(crate::specs::Lists::popped_at))]
-pub fn pop_oldest(links: &mut [u32], n: CellCount, port: Port, queue: Queue, first: usize)
-    requires { (link_words n.number ≤ length links.old) × (first < n.number) }
+pub fn pop_oldest(links: &mut [u32], n: usize, port: Port, queue: Queue, first: usize)
+    requires { (link_words n ≤ length links.old) × (first < n) }
     ensures { links.new ≡ spec.popped_at port.number queue.number first links.old }
 {
     let at = waiting_at(port);

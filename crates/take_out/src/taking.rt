@@ -7,7 +7,7 @@ ghost use Rattle.take_out.specs.Take as spec;
 
 use crate::serving::Next;
 use departure::departing::Departing;
-use departure::leaving::{depart, leave};
+use departure::leaving::{depart_from, leave};
 use layout::answers::Done;
 use layout::cell_count::CellCount;
 use layout::ports::Port;
@@ -36,7 +36,7 @@ pub fn take_frame(
     let frame = Departing::meet(cells, links, n, port, c)?;
     let left = frame.left;
     let written = frame.write(out);
-    depart(links, n, port, c, written.last, left);
+    depart_from(links, n, port, c, written.last, left);
     leave(links, n, port, next.queue, c, Counter::Sent);
     Ok(Done {
         x: written.long as u32,

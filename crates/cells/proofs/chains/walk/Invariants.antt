@@ -4,4 +4,4 @@ use Rattle.cells.specs.Chains.{walk}
 use Rattle.cells.proofs.chains.walk.Given as goal
 
 abbrev pub invariant-loop : goal.invariant-loop
-invariant-loop l = (l.at ≡ walk l.n.number l.links l.counter l.c) × (l.at < l.n.number)
+invariant-loop l = (l.at ≡ walk l.n l.links l.counter l.c) × (l.at < l.n)

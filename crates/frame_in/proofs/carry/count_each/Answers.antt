@@ -10,7 +10,7 @@ pub loop-number-preserved : goal.loop-number-preserved
 loop-number-preserved c =
     elim c.if-bit.branch [
       | then-bit w ↦
-          rw (w.links-is, w.bump.ensures)
+          rw (w.links-is, w.count.ensures)
           (each_here (bump_at (counter_number c.args.counter)) c.args.mask c.loop-number.number c.loop-number.links c.loop-number-test.true (sym c.bit.ensures ∙ w.if-bit.true)
           ∙ c.loop-number.invariant)
       | else-bit w ↦

@@ -9,7 +9,7 @@ pub loop-number-preserved : goal.loop-number-preserved
 loop-number-preserved c =
     elim c.if-bit.branch [
       | then-bit w ↦
-          rw (w.links-is, w.bump.ensures, w.push.ensures)
+          rw (w.links-is, w.count.ensures, w.push.ensures)
           (each_here (enqueue_at c.args.n.number c.args.queue.number c.args.first) c.args.left c.loop-number.number c.loop-number.links c.loop-number-test.true (sym c.bit.ensures ∙ w.if-bit.true)
           ∙ c.loop-number.invariant)
       | else-bit w ↦

@@ -12,4 +12,4 @@ returns-clause-out_after c =
     c.args.port.there
     (rw (f.0, f.1, f.2, f.3, f.4) at c.in_ok-frame.frame.sends)
     (rw (f.0, f.1, f.2, f.3, f.4) at c.write-written.ensures.bytes)
-    (c.leave.ensures ∙ ap (left c.args.port.number c.args.next.queue.number c.args.next.cell sent) c.depart.ensures)
+    (c.leave.ensures ∙ ap (left c.args.port.number c.args.next.queue.number c.args.next.cell sent) c.depart_from.ensures)

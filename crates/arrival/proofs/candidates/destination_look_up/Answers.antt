@@ -1,7 +1,0 @@
--- `arrival::candidates::destination_look_up` meets its contract.
-use native.Mathlib.Omega.{arith}
-use Rattle.arrival.proofs.Arrivals.{address_below}
-use Rattle.arrival.proofs.candidates.destination_look_up.Goals as goal
-
-pub key_of-requires : goal.key_of-requires
-key_of-requires c = (omega (arith, c.requires), rw c.address_at-destination.ensures (address_below c.args.frame.now _ (λ i. omega (arith, c.type_inv.frame i))))
