@@ -16,7 +16,7 @@ use settings::switches::FRESH_SWITCHES;
 use settings::vlan::{CheckedVlan, VlanSettings};
 use settings::vlan_words::write_vlan;
 
-// None; it tells where a new tag's fields come from all the same.
+// No operation acts on a fresh switch. Its sources are those of the operation itself.
 const FRESH_OPERATION: OperationSettings = OperationSettings {
     kind: 0,
     tag_type: 0,

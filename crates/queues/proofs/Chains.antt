@@ -9,7 +9,7 @@ use Rattle.layout.specs.Counting.{times}
 use Rattle.rules.specs.Choice.{Each, also}
 use Rattle.rules.proofs.Choice.{each_first, each_rest}
 use Rattle.queues.specs.Lists.{waiting_of, oldest_of, youngest_of, behind_of, bit, list_from, list_of}
-use Rattle.queues.specs.Queued.{some, Behind, Chained, Queued}
+use Rattle.queues.specs.Queued.{has_frames, Behind, Chained, Queued}
 use Rattle.layout.proofs.Cells.{clamped_below}
 use Rattle.layout.proofs.Counting.{times_here}
 use Rattle.queues.proofs.Counts.{times_rest, at_most}
@@ -41,7 +41,7 @@ from_chain n l p last (suc k) c (d ∷ ds) b (also here more) once h =
     (ap (c ∷◌) (from_chain n l p last k d ds b.1 more (once_rest c (d ∷ ds) once) (omega arith)))
 
 pub queued_list : {n : ℕ} {l : List ℕ} {p q : ℕ} (cells : List ℕ) → Queued n l p q cells → list_of n l p q ≡ cells
-unfolding list_of some
+unfolding list_of has_frames
 queued_list [] Q = rw Q.waits
 queued_list {n} {l} {p} {q} (c ∷ cs) Q =
     rw (Q.waits, Q.chained.0, clamped_below n c (each_first Q.below))

@@ -14,7 +14,7 @@ use Rattle.rules.proofs.Choice.{on, on_list, eqb_self, each_first, each_rest}
 use Rattle.layout.specs.Places.{link_words, waiting_word, oldest_word, youngest_word, behind_word}
 use Rattle.layout.specs.Bits.{with_bit}
 use Rattle.queues.specs.Lists.{waiting_of, oldest_of, youngest_of, behind_of, clamped, oldest_cell, bit, popped}
-use Rattle.queues.specs.Queued.{some, Behind, Queued, Queues, left}
+use Rattle.queues.specs.Queued.{has_frames, Behind, Queued, Queues, left}
 use Rattle.layout.proofs.BitLaws.{written_there, written_elsewhere}
 use Rattle.layout.proofs.Cells.{clamped_below}
 use Rattle.queues.proofs.Outcomes.{pop_last, pop_first, popped_at_law}
@@ -64,7 +64,7 @@ module _ (n p q : ℕ) (l : List ℕ) (long : link_words n ≤ length l) (port :
   behind_kept m last d (e ∷ es) same b = (same d ∙ b.0, behind_kept m last e es same b.1)
 
   pub queued_popped : (cs : List ℕ) → Queued n l p q (c ∷ cs) → Queued n (popped n p q l) p q cs
-  unfolding some
+  unfolding has_frames
   queued_popped [] Q =
       record {
         waits = ap (λ (w : ℕ). bit w q) (last_waiting Q) ∙ written_there (waiting_of l p) q false;

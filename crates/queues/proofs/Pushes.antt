@@ -14,7 +14,7 @@ use Rattle.rules.proofs.Choice.{on, on_list, eqb_self, each_append}
 use Rattle.layout.specs.Places.{link_words, waiting_word, oldest_word, youngest_word, behind_word}
 use Rattle.layout.specs.Bits.{with_bit}
 use Rattle.queues.specs.Lists.{waiting_of, oldest_of, youngest_of, behind_of, bit, pushed}
-use Rattle.queues.specs.Queued.{some, Behind, Queued, Queues, joined}
+use Rattle.queues.specs.Queued.{has_frames, Behind, Queued, Queues, joined}
 use Rattle.layout.proofs.BitLaws.{written_there, written_elsewhere}
 use Rattle.layout.proofs.Cells.{clamped_below}
 use Rattle.queues.proofs.Outcomes.{push_behind, push_first}
@@ -95,7 +95,7 @@ once_pushed x cells new once c =
 
 module _ (n p q x : ℕ) (l : List ℕ) (long : link_words n ≤ length l) (port : p < 5) (queue : q < 4) (inside : x < n) where
   pub queued_pushed : (cells : List ℕ) → times x cells ≡ 0 → Queued n l p q cells → Queued n (pushed n p q x l) p q (cells ++ (x ∷ []))
-  unfolding some
+  unfolding has_frames
   queued_pushed [] new Q =
       record {
         waits = ap (λ (w : ℕ). bit w q) (first_waiting_law n p q x l long port queue Q.waits) ∙ written_there (waiting_of l p) q true;
@@ -143,7 +143,7 @@ module _ (n p q x : ℕ) (l : List ℕ) (long : link_words n ≤ length l) (port
           }
 
       same_behind : (c : ℕ) (cs : List ℕ) → lists p q ≡ c ∷ cs → ListSame r s (lists r s) l m
-      unfolding some
+      unfolding has_frames
       same_behind c cs is =
           let Q : Queued n l p q (c ∷ cs) = subst (Queued n l p q) is mine in
           let last : ℕ = youngest_of l p q in
@@ -166,10 +166,10 @@ module _ (n p q x : ℕ) (l : List ℕ) (long : link_words n ≤ length l) (port
               omega (arith, S.apart p q s last port queue hs (λ e. ne same (sym e)))
 
       pub same_pushed : ListSame r s (lists r s) l m
-      unfolding some
+      unfolding has_frames
       same_pushed =
           on_list (lists p q)
-          (λ e. same_first (mine.waits ∙ ap some e))
+          (λ e. same_first (mine.waits ∙ ap has_frames e))
           (λ c cs e. same_behind c cs e)
 
     pub joined_here : joined p q x lists p q ≡ lists p q ++ (x ∷ [])

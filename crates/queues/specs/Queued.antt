@@ -1,14 +1,15 @@
 -- What it means that link memory holds a list of frames as a queue, and that it holds all 20. A frame is known by its
 -- first cell. Assumes nothing: these are definitions.
 use Rattle.std.specs.Prelude.{ℕ, ◌+◌, ◌≤◌, ◌<◌, ◌≡◌, Bool, true, false, ◌&&◌, List, [], ◌∷◌, ◌++◌, eqb, if◌then◌else◌}
-use Rattle.std.specs.Prelude.{Option, None as none, Some as queue}
+use Rattle.std.specs.Prelude.{Option, None as none, Some as some}
 use Rattle.layout.specs.Counting.{times}
 use Rattle.rules.specs.Choice.{Each}
 use Rattle.queues.specs.Lists.{waiting_of, oldest_of, youngest_of, behind_of, bit, list_of}
 
-unfoldable pub some : List ℕ → Bool
-some [] = false
-some (c ∷ cs) = true
+-- does a frame wait?
+unfoldable pub has_frames : List ℕ → Bool
+has_frames [] = false
+has_frames (c ∷ cs) = true
 
 -- the frames cs stand behind c, each in the word of the one before it, and `last` is the last of them
 abbrev pub Behind : List ℕ → ℕ → ℕ → ℕ → List ℕ → Type 0
@@ -21,7 +22,7 @@ Chained links p first last (c ∷ cs) = (first ≡ c) × Behind links p last c c
 
 -- queue q of port p holds just these frames
 pub record Queued (n : ℕ) (links : List ℕ) (p q : ℕ) (cells : List ℕ) : Type 0 where
-  pub waits : bit (waiting_of links p) q ≡ some cells
+  pub waits : bit (waiting_of links p) q ≡ has_frames cells
   pub below : Each (λ (c : ℕ). c < n) cells
   pub once : (c : ℕ) → times c cells ≤ 1
   pub chained : Chained links p (oldest_of links p q) (youngest_of links p q) cells
@@ -51,17 +52,17 @@ left p q tail lists r s = if eqb p r && eqb q s then tail else lists r s
 
 unfoldable pub highest_list : (ℕ → List ℕ) → Option ℕ
 highest_list lists =
-    if some (lists 3)
-    then queue 3
+    if has_frames (lists 3)
+    then some 3
     else
-    (if some (lists 2)
-    then queue 2
+    (if has_frames (lists 2)
+    then some 2
     else
-    (if some (lists 1)
-    then queue 1
-    else (if some (lists 0) then queue 0 else none)))
+    (if has_frames (lists 1)
+    then some 1
+    else (if has_frames (lists 0) then some 0 else none)))
 
 pub record HighestIs (lists : ℕ → List ℕ) (q : ℕ) : Type 0 where
   pub below : q < 4
-  pub waits : some (lists q) ≡ true
+  pub waits : has_frames (lists q) ≡ true
   pub none_above : (s : ℕ) → q < s → s < 4 → lists s ≡ []

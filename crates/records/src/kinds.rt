@@ -4,7 +4,6 @@ ghost use Rattle.records.specs.Requests.{kind_numbered};
 
 use rules::refusals::Refusal;
 
-// By number, from 1.
 #[derive(Clone, Copy)]
 pub enum RecordKind {
     FrameIn,
