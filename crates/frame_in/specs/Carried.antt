@@ -4,12 +4,15 @@
 -- Assumes nothing: these are definitions.
 use Rattle.std.specs.Prelude.{ℕ, ◌<◌, ◌≤◌, ◌≡◌, Bool, true, false, not, List, [], ◌∷◌, ◌++◌, length, if◌then◌else◌}
 use Rattle.std.specs.Prelude.{Option, None as none, Some as some, Ok}
+use Rattle.std.specs.Borrow.{MutBor}
+use Rattle.std.specs.Fn.{Shared}
 use Rattle.rules.specs.Cells.{cells, longest}
 use Rattle.rules.specs.Reasons.{reason_number}
 use Rattle.rules.specs.Counters.{counter_number}
 use Rattle.rules.specs.declared.counters.Counter.{Counter}
 use Rattle.rules.specs.declared.counters.Counter.TheVariants.{Offered as offered, Reason as reason, Accepted as accepted, NotLearned as not_learned, Queued as queued, StateOut as state_out, QueueOut as queue_out}
 use Rattle.layout.specs.declared.answers.Answer.{Answer}
+use Rattle.layout.specs.declared.ports.Port.{Port}
 use Rattle.layout.specs.Answers.{done_with}
 use Rattle.cells.specs.Chains.{follow}
 use Rattle.cells.specs.Bytes.{store_cells}
@@ -32,6 +35,20 @@ use Rattle.layout.specs.Counters.{bumped}
 unfoldable pub each_port : {A : Type 0} → (ℕ → A → A) → List ℕ → A → A
 each_port f [] m = m
 each_port f (p ∷ ps) m = each_port f ps (f p m)
+
+-- a closure over link memory and a port
+module _ {F : Type 0} (g : Shared F (MutBor (List ℕ) × (Port × Unit {0})) (Unit {0} × (MutBor (List ℕ) × Unit {0}))) (act : F) where
+  -- it may be called on a memory of this length, at any port
+  pub record MayAct (long : ℕ) : Type 0 where
+    pub at : (p : MutBor (List ℕ)) (port : Port) → length p.now ≡ long → g.pre act (p, (port, tt))
+
+  -- it makes of link memory what f makes of it
+  pub record ActsAs (f : ℕ → List ℕ → List ℕ) : Type 0 where
+    pub is : (p : MutBor (List ℕ)) (port : Port) (q : MutBor (List ℕ)) → g.post act (p, (port, tt)) (tt, (q, tt)) → q.now ≡ f port.number p.now
+
+  -- whatever that f is, it was done at each port of a mask
+  pub record ActsAtEach (mask : ℕ) (old new : List ℕ) : Type 0 where
+    pub is : (f : ℕ → List ℕ → List ℕ) → ActsAs f → new ≡ each_port f (ports_in mask) old
 
 -- ---- counters
 

@@ -4,7 +4,7 @@ ghost use Rattle.rules.specs.Counters.{counter_number};
 ghost use Rattle.layout.specs.Places.{fixed_words, link_words, cell_bytes};
 ghost use Rattle.layout.specs.Answers.{done_with};
 ghost use Rattle.arrival.specs.Candidates.{ports_in};
-ghost use Rattle.frame_in.specs.Carried.{each_port, bump_at, counted_falls, count_if, counted_with};
+ghost use Rattle.frame_in.specs.Carried.{each_port, MayAct, ActsAtEach, bump_at, counted_falls, count_if, counted_with};
 ghost use Rattle.frame_in.specs.Carried.{enqueue_at, lesson_by, join_at, carried_out, Room, Ready};
 
 use addresses::{learn, mark};
@@ -15,14 +15,28 @@ use cells::sizes::cells_of;
 use layout::answers::Done;
 use layout::bits::{bit, less};
 use layout::cell_count::CellCount;
-use layout::counter::count as count_one;
+use layout::counter::count;
 use layout::numbers::PLACES;
 use layout::ports::{Port, Queue};
 use rules::counters::Counter;
 
+// Something done at each port of a mask, in ascending order.
+#[inline(always)]
+#[tactic(auto, using(crate::proofs::Each::each_starts, crate::proofs::Each::each_here, crate::proofs::Each::each_past, crate::proofs::Each::each_ends))]
+fn each_port<F: Fn(&mut [u32], Port)>(links: &mut [u32], mask: u32, act: F)
+    requires { MayAct F.Fn act (length links.old) }
+    ensures { ActsAtEach F.Fn act mask links.old links.new }
+{
+    for number in 0..5 {
+        if bit(mask, number) {
+            act(links, Port { number });
+        }
+    }
+}
+
 // A counter of each port of a mask. Seldom is there one.
 #[inline(always)]
-#[tactic(auto, using(crate::proofs::Each::each_starts, crate::proofs::Each::each_ends, crate::proofs::Each::each_none))]
+#[tactic(auto, using(crate::proofs::Each::each_none))]
 fn count_each(links: &mut [u32], mask: u32, counter: Counter)
     requires { fixed_words ≤ length links.old }
     ensures { links.new ≡ each_port (bump_at (counter_number counter)) (ports_in mask) links.old }
@@ -30,11 +44,7 @@ fn count_each(links: &mut [u32], mask: u32, counter: Counter)
     if mask == 0 {
         return;
     }
-    for number in 0..5 {
-        if bit(mask, number) {
-            count_one(links, Port { number }, counter);
-        }
-    }
+    each_port(links, mask, |links, port| count(links, port, counter));
 }
 
 // Does every candidate stay?
@@ -63,19 +73,15 @@ fn count_falls(links: &mut [u32], masks: Masks)
 
 // A copy is queued at each port left, and counted there.
 #[inline(always)]
-#[tactic(auto, using(crate::proofs::Each::each_starts, crate::proofs::Each::each_ends))]
 fn push_all(links: &mut [u32], n: CellCount, left: u32, queue: Queue, first: u32)
     requires { link_words n.number ≤ length links.old }
     ensures { links.new
         ≡ each_port (enqueue_at n.number queue.number first) (ports_in left) links.old }
 {
-    for number in 0..5 {
-        if bit(left, number) {
-            let port = Port { number };
-            queues::push(links, n.number, port, queue, first);
-            count_one(links, port, Counter::Queued);
-        }
-    }
+    each_port(links, left, |links, port| {
+        queues::push(links, n.number, port, queue, first);
+        count(links, port, Counter::Queued);
+    });
 }
 
 // The frame into its cells, and its first cell into the queue of each port left.
@@ -112,21 +118,21 @@ fn count_if(links: &mut [u32], port: Port, unlearned: bool)
     ensures { links.new ≡ count_if unlearned port.number links.old }
 {
     if unlearned {
-        count_one(links, port, Counter::NotLearned);
+        count(links, port, Counter::NotLearned);
     }
 }
 
 // All counters of a frame but those of its copies: on each way of a frame, without a call.
 #[inline(always)]
 #[tactic(auto, unfolding(crate::specs::Carried::counted_with))]
-fn count(links: &mut [u32], port: Port, unlearned: bool, masks: Masks, outcome: Counter)
+fn count_frame(links: &mut [u32], port: Port, unlearned: bool, masks: Masks, outcome: Counter)
     requires { fixed_words ≤ length links.old }
     ensures { links.new ≡ counted_with outcome port.number unlearned masks links.old }
 {
-    count_one(links, port, Counter::Offered);
+    count(links, port, Counter::Offered);
     count_if(links, port, unlearned);
     count_falls(links, masks);
-    count_one(links, port, outcome);
+    count(links, port, outcome);
 }
 
 // Cells and queues come last, so that the compiler has little to keep while a frame is stored.
@@ -148,7 +154,7 @@ pub fn carry_out(
     match plan {
         Plan::Queue { lesson, offer } => {
             let unlearned = take_lesson(addresses, port, lesson);
-            count(links, port, unlearned, offer.masks, Counter::Accepted);
+            count_frame(links, port, unlearned, offer.masks, Counter::Accepted);
             join(cells, links, n, frame, offer);
             Done {
                 x: 0,
@@ -161,7 +167,7 @@ pub fn carry_out(
             reason,
         } => {
             let unlearned = take_lesson(addresses, port, lesson);
-            count(links, port, unlearned, masks, Counter::Reason(reason));
+            count_frame(links, port, unlearned, masks, Counter::Reason(reason));
             Done {
                 x: u32::from(reason),
                 y: 0,

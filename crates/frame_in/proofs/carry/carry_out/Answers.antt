@@ -9,12 +9,12 @@ join-requires c =
     let a = c.args in
     let ready : Room a.n.number a.links.now a.frame.now c.in-Queue.offer = rw c.in-Queue.is at c.requires.ready in
     record {
-      lengths = (omega (arith, c.requires.lengths, c.count.auto), c.requires.lengths.1);
+      lengths = (omega (arith, c.requires.lengths, c.count_frame.auto), c.requires.lengths.1);
       room = record {
         long = ready.long;
         left = ready.left;
         enough = room_counted a.n.number c.in-Queue.lesson a.frame.now a.cells.now a.links.now a.addresses.now a.port.number c.take_lesson-unlearned.ensures
-            c.in-Queue.offer a.port.there c.count.ensures _ ready.enough;
+            c.in-Queue.offer a.port.there c.count_frame.ensures _ ready.enough;
       };
     }
 
@@ -23,11 +23,11 @@ returns-in-Queue c =
     let a = c.args in
     rw c.in-Queue.is
     (queued_is a.n.number c.in-Queue.lesson a.frame.now a.cells.now a.links.now a.addresses.now a.port.number c.take_lesson-unlearned.ensures
-    c.in-Queue.offer a.port.there c.count.ensures c.join.ensures)
+    c.in-Queue.offer a.port.there c.count_frame.ensures c.join.ensures)
 
 pub returns-in-Drop : goal.returns-in-Drop
 returns-in-Drop c =
     let a = c.args in
     rw c.in-Drop.is
     (dropped_is a.n.number c.in-Drop.lesson a.frame.now a.cells.now a.links.now a.addresses.now a.port.number c.take_lesson-unlearned-in-Drop.ensures
-    c.in-Drop.masks c.in-Drop.reason c.count-in-Drop.ensures c.from.ensures.0)
+    c.in-Drop.masks c.in-Drop.reason c.count_frame-in-Drop.ensures c.from.ensures.0)
