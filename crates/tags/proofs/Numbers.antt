@@ -21,7 +21,7 @@ tag_of_four bytes i each =
     let header : four_bytes_at bytes i % 65536 ≡ two_bytes_at bytes (i + 2) = omega (arith, two_below bytes (i + 2) each) in
     rw (type_of_four bytes i each, header)
 
-pub address_of_six : (bytes : List ℕ) (i : ℕ) → two_bytes_at bytes i * 4294967296 + four_bytes_at bytes (i + 2) ≡ address_at bytes i
+address_of_six : (bytes : List ℕ) (i : ℕ) → two_bytes_at bytes i * 4294967296 + four_bytes_at bytes (i + 2) ≡ address_at bytes i
 unfolding two_bytes_at four_bytes_at address_at
 address_of_six bytes i =
     let three : i + 2 + 1 ≡ i + 3 = omega arith in

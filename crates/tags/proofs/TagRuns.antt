@@ -9,6 +9,7 @@ use lib.Seq.{sets, drop-cons}
 use Rattle.slices.proofs.Runs.{sets_append, part_back}
 use Rattle.rules.specs.Tags.{Tag, header_of, header_bytes, tag_bytes, stack_bytes}
 use Rattle.tags.specs.Numbers.{tag_is, stack_is}
+use Rattle.tags.proofs.Stacks.{mapped}
 use Rattle.tags.specs.declared.stack.Stack.{Stack}
 
 -- PCP, DEI and the VID's upper four bits make the header's first byte
@@ -54,6 +55,6 @@ tag_turn start out tags bytes at i size before h f e small is =
 pub all_written :
     (start out : List ℕ) (s : Stack) (at i : ℕ)
     → sets out (at + 4 * i) (stack_bytes (map tag_is (drop i (take s.count s.tags)))) ≡ sets start at (stack_bytes (map tag_is (take s.count s.tags)))
-    → length (take s.count s.tags) ≤ i → out ≡ sets start at (stack_bytes (stack_is s))
-unfolding stack_is stack_bytes
-all_written start out s at i before h = rw (drop_of_length-le (take s.count s.tags) {i = i} h) at before
+    → length (take s.count s.tags) ≤ i → s.count ≤ length s.tags → out ≡ sets start at (stack_bytes (stack_is s))
+unfolding stack_bytes
+all_written start out s at i before h few = rw (drop_of_length-le (take s.count s.tags) {i = i} h, ← mapped s few) at before

@@ -7,14 +7,6 @@ ghost use Rattle.tags.specs.Reading.{four_bytes_at, eight_bytes_at};
 use crate::stack::Stack;
 
 // High byte first.
-#[tactic(auto, unfolding(rules::specs::Tags::two_bytes_at))]
-pub fn two_bytes(bytes: &[u8], i: usize) -> u32
-    requires { i + 2 ≤ length bytes.now }
-    ensures { (result ≡ two_bytes_at bytes.now i) × (result < 65536) }
-{
-    u32::from(u16::from_be_bytes([bytes[i], bytes[i + 1]]))
-}
-
 #[tactic(auto, unfolding(crate::specs::Reading::four_bytes_at, rules::specs::Tags::two_bytes_at))]
 fn four_bytes(bytes: &[u8], i: usize) -> u32
     requires { i + 4 ≤ length bytes.now }
@@ -84,12 +76,13 @@ pub fn address_at(bytes: &[u8], i: usize) -> u64
 }
 
 // The same where nothing need follow.
-#[tactic(auto, using(crate::proofs::Numbers::address_of_six))]
+#[tactic(auto, unfolding(rules::specs::Tags::address_at))]
 pub fn address_in_six(bytes: &[u8], i: usize) -> u64
     requires { i + 6 ≤ length bytes.now }
     ensures { result ≡ address_at bytes.now i }
 {
-    u64::from(two_bytes(bytes, i)) * 0x1_0000_0000 + u64::from(four_bytes(bytes, i + 2))
+    let six = &bytes[i..i + 6];
+    u64::from_be_bytes([0, 0, six[0], six[1], six[2], six[3], six[4], six[5]])
 }
 
 // Bit 0 of an address's first byte.

@@ -9,7 +9,7 @@ use crate::stack::Stack;
 // The tags as they stand in a frame, four bytes each.
 #[tactic(auto, using(crate::proofs::TagRuns::tag_turn, crate::proofs::TagRuns::all_written))]
 pub fn encode(stack: Stack, out: &mut [u8], at: usize)
-    requires { at + 4 * stack.count ≤ length out.old }
+    requires { (stack.count ≤ 4) × (at + 4 * stack.count ≤ length out.old) }
     ensures { out.new ≡ sets out.old at (stack_bytes (stack_is stack)) }
 {
     for (i, tag) in stack.tags[..stack.count].iter().enumerate() {
