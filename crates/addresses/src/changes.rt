@@ -1,6 +1,5 @@
 // What changes address memory: the place that a look-up found before, or every place.
 ghost use Rattle.std.specs.Prelude.{◌≡◌, ◌<◌, length, replicate};
-ghost use Rattle.rules.specs.Numbers.{place_count};
 ghost use Rattle.addresses.specs.Numbers.{all_in_range};
 ghost use Rattle.addresses.specs.Search.{place_of};
 ghost use Rattle.addresses.specs.Writes.{marked_by, learned_by, static_by, removed_by, aged_by};
@@ -13,8 +12,8 @@ use layout::ports::Port;
 
 // "A hit marks the entry as used."
 #[tactic(auto, unfolding(crate::specs::Writes::marked_by))]
-pub fn mark(addresses: &mut [u64; PLACES], found: LookUp)
-    requires { place_of found < place_count }
+pub fn mark(addresses: &mut [u64], found: LookUp)
+    requires { place_of found < length addresses.old }
     ensures { addresses.new ≡ marked_by found addresses.old }
 {
     if let LookUp::Found { place, .. } = found {
@@ -24,8 +23,8 @@ pub fn mark(addresses: &mut [u64; PLACES], found: LookUp)
 
 // Learns the key at the place that a look-up found before. Answers whether there was a place.
 #[tactic(auto, unfolding(crate::specs::Writes::learned_by))]
-pub fn learn(addresses: &mut [u64; PLACES], source: LookUp, key: Key, port: Port) -> bool
-    requires { place_of source < place_count }
+pub fn learn(addresses: &mut [u64], source: LookUp, key: Key, port: Port) -> bool
+    requires { place_of source < length addresses.old }
     ensures { (result, addresses.new) ≡ learned_by source key.number port.number addresses.old }
 {
     match source {
@@ -40,8 +39,8 @@ pub fn learn(addresses: &mut [u64; PLACES], source: LookUp, key: Key, port: Port
 
 // "A match becomes static with the given port, no match takes the first empty place."
 #[tactic(auto, unfolding(crate::specs::Writes::static_by))]
-pub fn set_static(addresses: &mut [u64; PLACES], found: LookUp, key: Key, port: Port)
-    requires { place_of found < place_count }
+pub fn set_static(addresses: &mut [u64], found: LookUp, key: Key, port: Port)
+    requires { place_of found < length addresses.old }
     ensures { addresses.new ≡ static_by found key.number port.number addresses.old }
 {
     if let LookUp::Found { place, .. } | LookUp::Vacant(place) = found {
@@ -51,8 +50,8 @@ pub fn set_static(addresses: &mut [u64; PLACES], found: LookUp, key: Key, port: 
 
 // "Any entry, learned or static, is removed by call, and its place is used again."
 #[tactic(auto, unfolding(crate::specs::Writes::removed_by))]
-pub fn remove(addresses: &mut [u64; PLACES], found: LookUp)
-    requires { place_of found < place_count }
+pub fn remove(addresses: &mut [u64], found: LookUp)
+    requires { place_of found < length addresses.old }
     ensures { addresses.new ≡ removed_by found addresses.old }
 {
     if let LookUp::Found { place, .. } = found {
@@ -62,7 +61,7 @@ pub fn remove(addresses: &mut [u64; PLACES], found: LookUp)
 
 // Is every place in range? Ageing asks before its first write.
 #[tactic(auto, unfolding(crate::specs::Numbers::all_in_range))]
-pub fn all_in_range(addresses: &[u64; PLACES]) -> bool
+pub fn all_in_range(addresses: &[u64]) -> bool
     ensures { result ≡ all_in_range addresses.now }
 {
     addresses.iter().all(|number| Number(*number).in_range())
@@ -83,7 +82,7 @@ pub fn age(addresses: &mut [u64; PLACES]) -> u32
 }
 
 // "No address known."
-pub fn forget_all(addresses: &mut [u64; PLACES])
+pub fn forget_all(addresses: &mut [u64])
     ensures { addresses.new ≡ replicate (length addresses.old) 0 }
 {
     addresses.fill(0);
