@@ -36,7 +36,7 @@ impl TryFrom<u32> for SwitchesWord {
 }
 
 impl SwitchesWord {
-    // A queue's switches from bit 0 on; those of the queues after it stand above them.
+    // The switches of a queue: its ports' from bit 0 on, and those of the queues after it above them.
     pub fn of(self, queue: Queue) -> u32
         ensures { result ≡ self.word / 2 ^ (8 * queue.number) }
     {
