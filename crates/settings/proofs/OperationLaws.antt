@@ -50,6 +50,18 @@ pub kind_in_law : (w : ℕ) → (operation_of (operation_in w)).kind ≡ kind_of
 unfolding operation_of operation_in kind_of
 kind_in_law w = grind (arith, common_steps)
 
+source_in_law : (k : ℕ) → source_of (min k 2) ≡ source_of k
+unfolding source_of
+source_in_law k = grind (arith, common_steps)
+
+pub vid_source_in : (w : ℕ) → (operation_of (operation_in w)).vid_from ≡ source_of (w / 16 % 4)
+unfolding operation_of operation_in
+vid_source_in w = source_in_law (w / 16 % 4)
+
+pub pcp_source_in : (w : ℕ) → (operation_of (operation_in w)).pcp_from ≡ source_of (w / 64 % 4)
+unfolding operation_of operation_in
+pcp_source_in w = source_in_law (w / 64 % 4)
+
 -- the given header
 pub given_in : (w : ℕ) → w < operation_end → header_of (w / 256 % 16 * 4096 + w / 4096) ≡ (operation_of (operation_in w)).header
 unfolding operation_of operation_in header_of
@@ -75,15 +87,3 @@ every_kind k = grind (arith, common_steps)
 pub every_source : (s : Source) → (source_of (source_number s) ≡ s) × (source_number s ≤ 2)
 unfolding source_of source_number
 every_source s = grind (arith, common_steps)
-
--- an operation by its parts
-source_in_law : (k : ℕ) → source_of (min k 2) ≡ source_of k
-unfolding source_of
-source_in_law k = grind (arith, common_steps)
-
-pub operation_parts :
-    (w header : ℕ) → header_of header ≡ (operation_of (operation_in w)).header
-    → record { kind = kind_of (w % 8); type = type_of (w / 8 % 2); vid_from = source_of (w / 16 % 4); pcp_from = source_of (w / 64 % 4); header = header_of header }
-    ≡ operation_of (operation_in w)
-unfolding operation_of operation_in
-operation_parts w header e = rw (e, ← kind_in_law w, ← source_in_law (w / 16 % 4), ← source_in_law (w / 64 % 4)) refl

@@ -48,3 +48,8 @@ is_stored_word w = leb w operation_end
 
 abbrev pub is_exempt : ℕ → Bool
 is_exempt w = eqb w operation_end
+
+-- ---- an operation of the kind none, without the word's range
+
+abbrev pub is_idle : ℕ → Bool
+is_idle w = eqb (w % 8) 0

@@ -4,10 +4,11 @@ ghost use Rattle.rules.specs.Tags.{header_of};
 ghost use Rattle.settings.specs.Ranges.{OperationRange};
 ghost use Rattle.rules.specs.Arguments.{operation_of, operation_in_range};
 ghost use Rattle.settings.specs.Operations.{operation_is, operation_word, operation_in};
-ghost use Rattle.settings.specs.Operations.{is_operation_word, is_stored_word, is_exempt};
+ghost use Rattle.settings.specs.Operations.{is_operation_word, is_stored_word, is_exempt, is_idle};
 
 use layout::damage::Damaged;
 use layout::numbers::{LAST_PCP, LAST_VID};
+use rules::operations::{Kind, Source};
 
 #[derive(Clone, Copy)]
 pub struct OperationSettings {
@@ -84,6 +85,39 @@ impl TryFrom<u32> for OperationWord {
 }
 
 impl OperationWord {
+    #[inline(always)]
+    #[tactic(auto, using(crate::proofs::OperationLaws::kind_in_law))]
+    pub fn kind(self) -> Kind
+        ensures { result ≡ (operation_of (operation_in self.word)).kind }
+    {
+        Kind::from(self.word % TYPE)
+    }
+
+    // By number, as a call gives it.
+    #[inline(always)]
+    #[tactic(auto, unfolding(crate::specs::Operations::operation_in))]
+    pub fn tag_type(self) -> u32
+        ensures { result ≡ (operation_in self.word).type }
+    {
+        self.word / TYPE % 2
+    }
+
+    #[inline(always)]
+    #[tactic(auto, using(crate::proofs::OperationLaws::vid_source_in))]
+    pub fn vid_source(self) -> Source
+        ensures { result ≡ (operation_of (operation_in self.word)).vid_from }
+    {
+        Source::from(self.word / VID_SOURCE % 4)
+    }
+
+    #[inline(always)]
+    #[tactic(auto, using(crate::proofs::OperationLaws::pcp_source_in))]
+    pub fn pcp_source(self) -> Source
+        ensures { result ≡ (operation_of (operation_in self.word)).pcp_from }
+    {
+        Source::from(self.word / PCP_SOURCE % 4)
+    }
+
     // The given PCP, DEI and VID as a tag has them.
     #[inline(always)]
     #[tactic(auto, using(crate::proofs::OperationLaws::given_in))]
@@ -107,4 +141,12 @@ pub fn is_exempt(word: u32) -> bool
     ensures { result ≡ is_exempt word }
 {
     word == EXEMPT
+}
+
+// Is its kind none? A word out of range is asked too.
+#[inline(always)]
+pub fn is_idle(word: u32) -> bool
+    ensures { result ≡ is_idle word }
+{
+    word % TYPE == 0
 }
