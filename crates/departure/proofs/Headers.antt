@@ -1,16 +1,16 @@
 -- The outcomes of the tests of a stored header and of the departing port's operation, and the tags that they give. Assumes nothing.
-use Prim.Native.Nat.{ℕ, ◌/◌, ◌%◌, ◌≤◌, min}
+use Prim.Native.Nat.{ℕ, ◌≤◌}
 use mathlib.Core.Path.{◌≡◌, refl}
 use mathlib.Core.Bool.{true, false, ◌&&◌}
 use mathlib.Core.List.{List}
 use native.Mathlib.Omega.{arith}
-use Rattle.std.proofs.lemmas.Grind.{common_steps}
 use lib.Dec.{eqb}
 use borrow.Author.Tests.{eq-eqb, ne_eqb, eqb-true, le-leb}
 use Rattle.rules.specs.Cells.{cells, longest}
-use Rattle.rules.specs.Tags.{Tag, header_of}
+use Rattle.rules.specs.Tags.{Tag}
 use Rattle.rules.specs.Operations.{Origin, Operation, on_stack, operate, leaving_tags}
-use Rattle.rules.specs.Arguments.{operation_of, kind_of, source_of}
+use Rattle.rules.specs.declared.operations.Kind.TheVariants.{Nothing as none}
+use Rattle.rules.specs.Arguments.{operation_of}
 use Rattle.rules.proofs.Choice.{and_left, and_right}
 use Rattle.cells.specs.Free.{size_of, is_frame}
 use Rattle.cells.specs.Stored.{stored_in_range}
@@ -18,8 +18,6 @@ use Rattle.cells.specs.declared.stored.StoredHeader.{StoredHeader}
 use Rattle.cells.proofs.Operations.{in_range, operated}
 use Rattle.settings.specs.Operations.{operation_in, is_operation_word, is_stored_word, is_exempt}
 use Rattle.settings.specs.Ports.{port_in, default_of}
-use Rattle.settings.proofs.OperationLaws.{kind_in_law}
-use Rattle.tags.specs.Operations.{operation_is}
 use Rattle.settings.specs.Records.{port_operation_at, port_at}
 use Rattle.departure.specs.Frames.{leaving_of, operation_fits, header_fits}
 
@@ -29,23 +27,11 @@ pub operation_at_law : (links : List ℕ) (port : ℕ) → operation_in (port_op
 unfolding port_in
 operation_at_law links port = refl
 
--- ---- an operation by the parts of its word
+-- ---- an operation that does nothing
 
-source_law : (k : ℕ) → source_of (min k 2) ≡ source_of k
-unfolding source_of
-source_law k = grind (arith, common_steps)
-
-pub operation_parts : (w header : ℕ) → header_of header ≡ (operation_of (operation_in w)).header
-    → operation_is (record { kind = kind_of (w % 8); tag_type = w / 8 % 2; vid_source = source_of (w / 16 % 4); pcp_source = source_of (w / 64 % 4); header = header })
-    ≡ operation_of (operation_in w)
-unfolding operation_is operation_of operation_in
-operation_parts w header e =
-    let kind : kind_of (min (w % 8) 4) ≡ kind_of (w % 8) = kind_in_law w in
-    rw (kind, source_law (w / 16 % 4), source_law (w / 64 % 4), e)
-
-pub idle : (w : ℕ) (o : Origin) (tags : List Tag) → w % 8 ≡ 0 → tags ≡ operate o (operation_of (operation_in w)) tags
-unfolding operate operation_of operation_in kind_of on_stack
-idle w o tags e = rw e
+pub idle : (operation : Operation) (o : Origin) (tags : List Tag) → operation.kind ≡ none → tags ≡ operate o operation tags
+unfolding operate on_stack
+idle operation o tags e = rw e
 
 module _ (h : StoredHeader) where
   -- ---- the tags with which a frame leaves

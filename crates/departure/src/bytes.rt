@@ -17,8 +17,8 @@ use cells::bytes::{load, load_whole};
 use cells::stored::StoredHeader;
 use layout::numbers::SHORTEST;
 use layout::{CELL_SIZE, STORED_HEADER};
-use rules::operations::{Kind, Source};
-use settings::operation::{OperationWord, PCP_SOURCE, TYPE, VID_SOURCE, is_exempt};
+use rules::operations::Kind;
+use settings::operation::{OperationWord, is_exempt};
 use settings::port::default_tag;
 use tags::leaving::{Operation, Origin};
 use tags::stack::Stack;
@@ -26,17 +26,16 @@ use tags::stack::Stack;
 // The operation of a word: a port's, or a VLAN's that was stored with a frame. Its kind comes last, right before it is
 // asked: so the compiler asks once.
 #[inline(always)]
-#[tactic(auto, using(crate::proofs::Headers::operation_parts))]
+#[tactic(auto, unfolding(tags::specs::Operations::operation_is, rules::specs::Arguments::operation_of))]
 fn operation_of(operation: OperationWord) -> Operation
     ensures { operation_is result ≡ operation_of (operation_in operation.word) }
 {
-    let word = operation.word;
     Operation {
-        tag_type: word / TYPE % 2,
-        vid_source: Source::from(word / VID_SOURCE % 4),
-        pcp_source: Source::from(word / PCP_SOURCE % 4),
+        tag_type: operation.tag_type(),
+        vid_source: operation.vid_source(),
+        pcp_source: operation.pcp_source(),
         header: operation.given_header(),
-        kind: Kind::from(word % TYPE),
+        kind: operation.kind(),
     }
 }
 
@@ -49,7 +48,7 @@ fn operated(origin: Origin, word: OperationWord, stack: Stack) -> Stack
         ≡ operate (origin_is origin.tags origin.default) (operation_of (operation_in word.word)) (stack_is stack))
         × (result.count ≤ stack.count + 1) }
 {
-    if word.word % TYPE == 0 {
+    if word.kind() == Kind::Nothing {
         return stack;
     }
     origin.operate(operation_of(word), stack)

@@ -13,7 +13,7 @@ use layout::cell_count::CellCount;
 use layout::damage::Damaged;
 use layout::ports::Port;
 use layout::{PORT_OPERATION, PORT_STRIDE, SIZE_UNIT};
-use settings::operation::{OperationWord, TYPE, is_exempt};
+use settings::operation::{OperationWord, is_exempt, is_idle};
 
 // Its first cell is c, and all that is met of it is in range.
 #[derive(Clone, Copy)]
@@ -104,6 +104,6 @@ impl<'a> Departing<'a> {
             → spec.leaves_plain (spec.stored_at self.entry.cells.now self.entry.c)
             (spec.operation_of_port self.entry.links.now self.entry.port.number) ≡ true }
     {
-        (self.vlan % TYPE == 0) & (self.own % TYPE == 0)
+        is_idle(self.vlan) & is_idle(self.own)
     }
 }
