@@ -208,7 +208,7 @@ module _ (links addresses frame : List ℕ) (n port : ℕ) where
     entry_damaged b = i.way.meets_is ∙ rw (ap is_operation_word (sym word_is) ∙ b)
 
     module _ (good : is_operation_word word ≡ true) (own : ℕ) (own_is : own ≡ get_or links (vlan_word e) 0) (vlan : Entry)
-        (read : (entry_is vlan ≡ vlan_of_words own word) × (vlan.operation ≡ word)) where
+        (read : (entry_is vlan ≡ vlan_of_words own word) × (vlan.operation.word ≡ word)) where
       vlan_read : entry_is vlan ≡ vlan_at links e
       vlan_read = read.0 ∙ rw (word_is, own_is)
 

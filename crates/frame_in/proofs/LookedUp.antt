@@ -128,7 +128,7 @@ module _ (links addresses frame : List ℕ) (n port : ℕ) where
             module _ (good : is_switches_word switches ≡ true) (c : ℕ) (c_is : c ≡ chosen_mask d) (k' : ℕ) (k'_is : k' ≡ candidates_in vlan.members c port)
                 (states : ℕ) (states_are : states ≡ states_at links) (lesson : Lesson) (lesson_at : LessonAt d g k lesson) (offer : Offer)
                 (masks_made : offer.masks ≡ masks_of k' states switches arrival.queue.number) (queue_made : offer.queue.number ≡ arrival.queue.number)
-                (header_made : offer.header ≡ record { length = length frame; default = arrival.default; operation = vlan.operation }) where
+                (header_made : offer.header ≡ record { length = length frame; default = arrival.default; operation = vlan.operation.word }) where
               masks_here : offer.masks ≡ masks_in links addresses port frame (entry_is vlan)
               unfolding masks_in
               masks_here = masks_made ∙ rw (k'_is, c_is, d_here, states_are, switches_are, queue_for)

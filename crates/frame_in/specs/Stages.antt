@@ -72,7 +72,7 @@ module _ (links addresses frame : List ℕ) (n port : ℕ) where
     pub arrival_is : ArrivalIs ((settings_of links).port port) (map_at links) frame arrival
     pub not_barred : arrival.barred ≡ none
     pub vlan_is_law : (facts_in links addresses port frame).vlan ≡ vlan_entry (entry_is vlan)
-    pub operation_is_law : vlan.operation ≡ operation_for links (facts_in links addresses port frame).vid
+    pub operation_is_law : vlan.operation.word ≡ operation_for links (facts_in links addresses port frame).vid
     pub in_range : vlan_in_range (entry_is vlan) ≡ true
 
   -- the look-ups are done, and the ports' tests

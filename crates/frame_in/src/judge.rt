@@ -108,7 +108,7 @@ impl Arriving<'_> {
         let header = StoredHeader {
             length: self.frame.len() as u16,
             default: arrival.default,
-            operation: vlan.operation,
+            operation: vlan.operation.word,
         };
         let lesson = Lesson {
             destination,

@@ -5,4 +5,4 @@ use Rattle.settings.specs.Operations.{operation_in}
 use Rattle.settings.specs.declared.vlan.Entry.{Entry}
 
 abbrev pub entry_is : Entry → VlanNumbers
-entry_is e = record { vid = e.vid; members = e.members; gid = e.gid; operation = operation_in e.operation }
+entry_is e = record { vid = e.vid; members = e.members; gid = e.gid; operation = operation_in e.operation.word }

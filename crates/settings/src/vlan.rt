@@ -71,17 +71,17 @@ pub struct Entry {
     pub vid: u32,
     pub members: u32,
     pub gid: u32,
-    pub operation: u32,
+    pub operation: OperationWord,
 }
 
 #[tactic(auto, unfolding(crate::specs::Ports::vlan_in))]
 pub fn read_entry(word: PortWord, operation: OperationWord) -> Entry
-    ensures { (entry_is result ≡ vlan_of_words word.word operation.word) × (result.operation ≡ operation.word) }
+    ensures { (entry_is result ≡ vlan_of_words word.word operation.word) × (result.operation.word ≡ operation.word) }
 {
     Entry {
         vid: word.vid(),
         members: word.word % GID,
         gid: word.word / GID % 16,
-        operation: operation.word,
+        operation,
     }
 }

@@ -15,5 +15,5 @@ member-requires c =
 pub returns : goal.returns
 returns c =
     rw c.untested.ensures
-    (nine _ _ _ _ _ _ _ c.requires _ (c.in_ok-operation.ensures) c.in_ok-operation.operation.in_range _ refl _ c.read_entry-vlan.ensures
+    (nine _ _ _ _ _ _ _ c.requires _ (c.in_ok-operation.ensures) c.in_ok-operation.operation.in_range _ refl c.read_entry-vlan.result c.read_entry-vlan.ensures
     (sym c.bit.ensures ∙ c.if-bit.false))
