@@ -36,10 +36,10 @@ pub fn chosen(found: LookUp) -> u32
     requires { ChosenFits found }
     ensures { result ≡ chosen_mask found }
 {
-    match found {
-        LookUp::Found { port, place: _ } => power(port),
-        LookUp::Vacant(_) | LookUp::Full => EVERY_PORT,
-    }
+    let LookUp::Found { port, place: _ } = found else {
+        return EVERY_PORT;
+    };
+    power(port)
 }
 
 // The members that were chosen, without the arrival port.
