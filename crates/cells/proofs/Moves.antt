@@ -1,12 +1,11 @@
 -- What the tests before taking and before giving back say of link memory. Assumes nothing.
 use mathlib.Core.Path.{◌≡◌}
-use mathlib.Core.Bool.{true, ◌&&◌}
+use mathlib.Core.Bool.{true}
 use mathlib.Core.List.{List}
 use Prim.Native.Nat.{ℕ, ◌+◌, ◌-◌, ◌≤◌, ◌<◌}
 use native.Mathlib.Omega.{arith}
-use lib.Dec.{leb, ltb}
 use Rattle.std.specs.Prelude.{Ok as ok}
-use Rattle.cells.specs.Free.{free_count, first_free, word_of, size_of, last_cell, room_for, is_frame, can_give_back}
+use Rattle.cells.specs.Free.{free_count, first_free, size_of, last_cell, room_for, is_frame, can_give_back}
 use Rattle.cells.proofs.Steps.{walk_in}
 
 -- ---- taking
@@ -29,11 +28,6 @@ pub record Frame (c : ℕ) (l : List ℕ) : Type 0 where
 pub frame : (c : ℕ) (l : List ℕ) → is_frame c l ≡ true → Frame c l
 unfolding is_frame
 frame c l e = record { some = grind arith; few = grind arith }
-
--- one comparison of the frame word tells
-pub frame_range : (c : ℕ) (l : List ℕ) → (leb 32 (word_of l c) && ltb (word_of l c) 1696) ≡ is_frame c l
-unfolding is_frame
-frame_range c l = grind arith
 
 pub last_in : (n c : ℕ) (l : List ℕ) → c < n → last_cell n l c < n
 last_in n c l h = walk_in n l (size_of l c - 1) c h

@@ -58,13 +58,12 @@ pub fn word(links: &[u32], n: usize, c: u32) -> u32
 }
 
 // Is it in range: a size of 1 to 52 cells?
-#[tactic(auto, using(crate::proofs::Moves::frame_range))]
+#[tactic(auto, unfolding(crate::specs::Free::is_frame))]
 pub fn is_frame(links: &[u32], n: usize, c: u32) -> bool
     requires { (link_words n ≤ length links.now) × (c < n) }
     ensures { result ≡ spec.is_frame c links.now }
 {
-    let w = word(links, n, c);
-    (SIZE_UNIT <= w) & (w < FRAME_END)
+    (SIZE_UNIT..FRAME_END).contains(&word(links, n, c))
 }
 
 // Do the cells of that frame, `size` in all, fit beside the free ones?

@@ -57,10 +57,8 @@ impl StoredHeader {
     pub fn in_range(self) -> bool
         ensures { result ≡ stored_in_range self }
     {
-        (SHORTEST_LENGTH <= self.length)
-            & (self.length <= LONGEST_LENGTH)
-            & (DEFAULT_START <= self.default)
-            & (self.default < DEFAULT_END)
+        (SHORTEST_LENGTH..=LONGEST_LENGTH).contains(&self.length)
+            & (DEFAULT_START..DEFAULT_END).contains(&self.default)
             & is_stored_word(self.operation)
     }
 }
