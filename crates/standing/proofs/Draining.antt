@@ -82,14 +82,14 @@ module _ (p q : ℕ) (hp : p < 5) (hq : q < 4) where
     same_length : length (list_of s.cell_count m.links p q) ≡ length (queue_at p q s.core.waiting)
     same_length = list_length s.cell_count m.links s.core.waiting S.traffic.links_stand p q hp hq
 
-    waits_as : bit (waiting_of m.links p) q ≡ Lists.some (list_of s.cell_count m.links p q)
+    waits_as : bit (waiting_of m.links p) q ≡ Lists.has_frames (list_of s.cell_count m.links p q)
     waits_as = list_waits s.cell_count m.links p (some_cells m s S) q
 
   -- no frame waits
   none_left : (k : ℕ) (m : Memories) (s : State) → Stands m s → list_of s.cell_count m.links p q ≡ [] → Drained 0 k m s
-  unfolding sends drains_counted Lists.some
+  unfolding sends drains_counted Lists.has_frames
   none_left k m s S e =
-      let none : bit (waiting_of m.links p) q ≡ false = waits_as m s S ∙ ap Lists.some e in (
+      let none : bit (waiting_of m.links p) q ≡ false = waits_as m s S ∙ ap Lists.has_frames e in (
         subst (λ (l : List ℕ). Stands (with_links m l) (less_copies 0 p q s)) (sym (turns_stop (turn s) p q k m.links none)) S,
         count_stop (turn s) p q k m.links none,
       )
@@ -97,9 +97,9 @@ module _ (p q : ℕ) (hp : p < 5) (hq : q < 4) where
   -- the oldest leaves, and then the others
   one_then : (j k : ℕ) (m : Memories) (s : State) → Stands m s → (i : ℕ) (tail : List ℕ) → list_of s.cell_count m.links p q ≡ i ∷ tail
       → Drained j k (with_links m (turn s m.links)) (one_less p q s) → Drained (suc j) (suc k) m s
-  unfolding sends drains_counted Lists.some
+  unfolding sends drains_counted Lists.has_frames
   one_then j k m s S i tail e rest =
-      let waits : bit (waiting_of m.links p) q ≡ true = waits_as m s S ∙ ap Lists.some e in (
+      let waits : bit (waiting_of m.links p) q ≡ true = waits_as m s S ∙ ap Lists.has_frames e in (
         subst (λ (l : List ℕ). Stands (with_links m l) (less_copies (suc j) p q s)) (sym (turns_more (turn s) p q k m.links waits)) rest.0,
         count_more (turn s) p q k m.links waits ∙ ap suc rest.1,
       )

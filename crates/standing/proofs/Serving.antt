@@ -76,9 +76,9 @@ module _ (n : ℕ) (links : List ℕ) (ws : List Waiting) (T : LinkTraffic n lin
     serves_nobody none_waits = rw (word_good, highest_lists n links p some_cells ∙ nothing_highest lists none_waits)
 
     serves_head : (q i : ℕ) (tail : List ℕ) → q < 4 → lists q ≡ i ∷ tail → ((s : ℕ) → s < 4 → q < s → lists s ≡ []) → served n p links ≡ next_frame q i
-    unfolding served served_of Lists.some
+    unfolding served served_of Lists.has_frames
     serves_head q i tail hq head above =
-        let highest : HighestIs lists q = record { below = hq; waits = ap Lists.some head; none_above = λ s a b. above s b a } in
+        let highest : HighestIs lists q = record { below = hq; waits = ap Lists.has_frames head; none_above = λ s a b. above s b a } in
         rw (
           word_good,
           highest_lists n links p some_cells ∙ queue_highest lists q highest,
