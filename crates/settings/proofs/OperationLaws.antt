@@ -1,6 +1,6 @@
 -- A tag operation in one word: fields in range are read back, their word is in range, and a word in range holds what the rules allow.
 -- Assumes nothing.
-use Rattle.std.proofs.Common.{◌≡◌, refl, ℕ, min, ◌+◌, ◌*◌, ◌/◌, ◌%◌, ◌<◌, ◌≤◌, true, false, arith}
+use Rattle.std.proofs.Common.{◌≡◌, ℕ, min, ◌+◌, ◌*◌, ◌/◌, ◌%◌, ◌<◌, ◌≤◌, true, false, arith}
 use Rattle.std.proofs.lemmas.Bool.Decides.{nat_tests}
 use Rattle.std.proofs.lemmas.Grind.{common_steps}
 use Rattle.rules.specs.Tags.{header_of}
@@ -8,7 +8,7 @@ use Rattle.rules.specs.declared.operations.Kind.{Kind}
 use Rattle.rules.specs.declared.operations.Kind.TheVariants.{Nothing, Pop, Push, Swap, PopAll}
 use Rattle.rules.specs.declared.operations.Source.{Source}
 use Rattle.rules.specs.declared.operations.Source.TheVariants.{Outermost, Second, Given}
-use Rattle.rules.specs.Arguments.{OperationNumbers, operation_in_range, operation_of, kind_of, type_of, source_of}
+use Rattle.rules.specs.Arguments.{OperationNumbers, operation_in_range, operation_of, kind_of, source_of}
 use Rattle.settings.specs.Ranges.{OperationRange}
 use Rattle.settings.specs.Operations.{operation_word, operation_in, operation_end, is_operation_word, is_stored_word, is_exempt}
 use Rattle.settings.proofs.RangeLaws.{operation_range}
