@@ -1,11 +1,13 @@
 -- A port's word and a VLAN's: fields in range are read back, their word is in range, and a word in range holds what the rules allow.
 -- Assumes nothing.
-use Rattle.std.proofs.Common.{◌≡◌, ℕ, ◌+◌, ◌*◌, ◌/◌, ◌%◌, ◌<◌, ◌≤◌, true, arith}
+use Rattle.std.proofs.Common.{◌≡◌, ℕ, ◌+◌, ◌*◌, ◌/◌, ◌%◌, ◌<◌, ◌≤◌, ◌∙◌, true, w16, arith}
+use Rattle.std.proofs.lemmas.Nat.{or_comm, or_shifted}
+use Rattle.std.specs.Int.{rotate_right}
 use Rattle.std.proofs.lemmas.Bool.Decides.{nat_tests}
 use Rattle.rules.specs.Tags.{Header, header_of}
 use Rattle.rules.specs.Arguments.{OperationNumbers, operation_in_range, PortNumbers, port_in_range, port_of, VlanNumbers, vlan_in_range, is_vid, bit}
 use Rattle.layout.proofs.BitLaws.{five}
-use Rattle.settings.specs.Ports.{vid_start, vid_end, is_vid_word, port_word, port_in, vlan_word, vlan_in, header_in, default_in, default_of, default_number}
+use Rattle.settings.specs.Ports.{vid_start, vid_end, is_vid_word, port_word, port_in, vlan_word, vlan_in, default_in, default_of, default_number}
 use Rattle.settings.proofs.RangeLaws.{port_range, vlan_range}
 
 -- ---- a word with a VID on top
@@ -58,12 +60,7 @@ bars_in state operation w t h =
     five (λ t. t < 3 → bit (w / 4 % 8) t ≡ bit w (2 + t))
     (λ _. grind arith) (λ _. grind arith) (λ _. grind arith) (λ k. absurd (omega (arith, k))) (λ k. absurd (omega (arith, k))) t (omega arith) h
 
--- the default header
-pub header_in_law : (state : ℕ) (operation : OperationNumbers) (w : ℕ) → w < vid_end → header_of (header_in w) ≡ (port_of (port_in state operation w)).default
-unfolding port_of port_in header_of
-header_in_law state operation w h = grind arith
-
--- as a frame is stored with it
+-- the default header, as a frame is stored with it
 pub default_in_law : (state : ℕ) (operation : OperationNumbers) (w : ℕ) → default_of (default_in w) ≡ (port_of (port_in state operation w)).default
 unfolding port_of port_in default_of
 default_in_law state operation w = grind arith
@@ -76,7 +73,12 @@ pub number_back : (d : ℕ) → default_number (default_of d) ≡ d
 unfolding default_of default_number
 number_back d = grind arith
 
--- as a tag has it
-pub default_tag : (d : ℕ) → d < 65536 → header_of (d % 16 * 4096 + d / 16) ≡ default_of d
+-- as a tag has it: the low four bits on top
+rotated : (d : ℕ) → d < 65536 → rotate_right w16 d 4 ≡ d % 16 * 4096 + d / 16
+rotated d h =
+    let top : d * 4096 % 65536 ≡ d % 16 * 4096 = omega arith in
+    rw top (or_comm (d / 16) (d % 16 * 4096) ∙ or_shifted (d % 16) 12 (d / 16) (omega (arith, h)))
+
+pub default_tag : (d : ℕ) → d < 65536 → header_of (rotate_right w16 d 4) ≡ default_of d
 unfolding default_of header_of
-default_tag d h = grind arith
+default_tag d h = rw (rotated d h) (grind arith)

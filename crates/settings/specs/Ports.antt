@@ -70,10 +70,6 @@ vlan_in operation w = record { vid = w / 512; members = w % 32; gid = w / 32 % 1
 
 -- ---- what a frame's way reads
 
--- the default header as a tag has it
-abbrev pub header_in : ℕ → ℕ
-header_in w = w / 32 % 16 * 4096 + w / 512
-
 -- the default header as a frame is stored with it: the word from DEI on
 abbrev pub default_in : ℕ → ℕ
 default_in w = w / 32

@@ -138,11 +138,11 @@ impl PortWord {
     }
 
     // The default header as a tag has it.
-    #[tactic(auto, using(crate::proofs::PortLaws::header_in_law))]
+    #[tactic(auto, using(crate::proofs::PortLaws::default_in_law))]
     pub fn default_header(self) -> u16
         ensures { (state : ℕ) (o : OperationNumbers) → header_of result ≡ (port_of (port_in state o self.word)).default }
     {
-        (self.word / DEI % 16 * 4096 + self.word / VID) as u16
+        default_tag(self.stored_default())
     }
 
     // The default header as it is stored with a frame: without the fields below it.
@@ -158,5 +158,5 @@ impl PortWord {
 pub fn default_tag(default: u16) -> u16
     ensures { header_of result ≡ default_of default }
 {
-    default % 16 * 4096 + default / 16
+    default.rotate_right(4)
 }
