@@ -1,6 +1,8 @@
 -- A tag operation in one word: fields in range are read back, their word is in range, and a word in range holds what the rules allow.
 -- Assumes nothing.
-use Rattle.std.proofs.Common.{◌≡◌, ℕ, min, ◌+◌, ◌*◌, ◌/◌, ◌%◌, ◌<◌, ◌≤◌, true, false, arith}
+use Rattle.std.proofs.Common.{◌≡◌, ℕ, min, ◌+◌, ◌*◌, ◌/◌, ◌%◌, ◌<◌, ◌≤◌, ◌∙◌, true, false, w16, arith}
+use Rattle.std.proofs.lemmas.Nat.{or_comm, or_shifted}
+use Rattle.std.specs.Int.{rotate_right}
 use Rattle.std.proofs.lemmas.Bool.Decides.{nat_tests}
 use Rattle.std.proofs.lemmas.Grind.{common_steps}
 use Rattle.rules.specs.Tags.{header_of}
@@ -62,10 +64,16 @@ pub pcp_source_in : (w : ℕ) → (operation_of (operation_in w)).pcp_from ≡ s
 unfolding operation_of operation_in
 pcp_source_in w = source_in_law (w / 64 % 4)
 
+-- a header with its VID on top, as a tag has it: the low four bits on top
+pub rotated : (d : ℕ) → d < 65536 → rotate_right w16 d 4 ≡ d % 16 * 4096 + d / 16
+rotated d h =
+    let top : d * 4096 % 65536 ≡ d % 16 * 4096 = omega arith in
+    rw top (or_comm (d / 16) (d % 16 * 4096) ∙ or_shifted (d % 16) 12 (d / 16) (omega (arith, h)))
+
 -- the given header
-pub given_in : (w : ℕ) → w < operation_end → header_of (w / 256 % 16 * 4096 + w / 4096) ≡ (operation_of (operation_in w)).header
+pub given_in : (w : ℕ) → w < operation_end → header_of (rotate_right w16 (w / 256) 4) ≡ (operation_of (operation_in w)).header
 unfolding operation_of operation_in header_of
-given_in w h = grind arith
+given_in w h = rw (rotated (w / 256) (omega arith)) (grind arith)
 
 -- each kind has a number in range of its own, and so has each source
 unfoldable pub kind_number : Kind → ℕ

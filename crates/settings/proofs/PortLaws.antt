@@ -1,7 +1,6 @@
 -- A port's word and a VLAN's: fields in range are read back, their word is in range, and a word in range holds what the rules allow.
 -- Assumes nothing.
-use Rattle.std.proofs.Common.{◌≡◌, ℕ, ◌+◌, ◌*◌, ◌/◌, ◌%◌, ◌<◌, ◌≤◌, ◌∙◌, true, w16, arith}
-use Rattle.std.proofs.lemmas.Nat.{or_comm, or_shifted}
+use Rattle.std.proofs.Common.{◌≡◌, ℕ, ◌+◌, ◌*◌, ◌/◌, ◌%◌, ◌<◌, ◌≤◌, true, w16, arith}
 use Rattle.std.specs.Int.{rotate_right}
 use Rattle.std.proofs.lemmas.Bool.Decides.{nat_tests}
 use Rattle.rules.specs.Tags.{Header, header_of}
@@ -9,6 +8,7 @@ use Rattle.rules.specs.Arguments.{OperationNumbers, operation_in_range, PortNumb
 use Rattle.layout.proofs.BitLaws.{five}
 use Rattle.settings.specs.Ports.{vid_start, vid_end, is_vid_word, port_word, port_in, vlan_word, vlan_in, default_in, default_of, default_number}
 use Rattle.settings.proofs.RangeLaws.{port_range, vlan_range}
+use Rattle.settings.proofs.OperationLaws.{rotated}
 
 -- ---- a word with a VID on top
 
@@ -73,12 +73,7 @@ pub number_back : (d : ℕ) → default_number (default_of d) ≡ d
 unfolding default_of default_number
 number_back d = grind arith
 
--- as a tag has it: the low four bits on top
-rotated : (d : ℕ) → d < 65536 → rotate_right w16 d 4 ≡ d % 16 * 4096 + d / 16
-rotated d h =
-    let top : d * 4096 % 65536 ≡ d % 16 * 4096 = omega arith in
-    rw top (or_comm (d / 16) (d % 16 * 4096) ∙ or_shifted (d % 16) 12 (d / 16) (omega (arith, h)))
-
+-- as a tag has it
 pub default_tag : (d : ℕ) → d < 65536 → header_of (rotate_right w16 d 4) ≡ default_of d
 unfolding default_of header_of
 default_tag d h = rw (rotated d h) (grind arith)

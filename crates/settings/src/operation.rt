@@ -124,7 +124,7 @@ impl OperationWord {
     pub fn given_header(self) -> u16
         ensures { header_of result ≡ (operation_of (operation_in self.word)).header }
     {
-        (self.word / DEI % 16 * 4096 + self.word / VID) as u16
+        ((self.word / DEI) as u16).rotate_right(4)
     }
 }
 
