@@ -109,16 +109,12 @@ impl<'a> Departing<'a> {
         ensures new_tags { stack_is result ≡ leaving_tags_of self.entry (stack_is tags) }
         ensures few { result.count ≤ tags.count + 2 }
     {
-        let header = StoredHeader::read(self.cells, self.n.number, self.c);
-        if is_exempt(header.operation) {
+        if is_exempt(self.vlan) {
             return tags;
         }
-        let vlan = OperationWord {
-            word: header.operation,
-        };
-        let own = OperationWord {
-            word: operation_word(self.links, self.port),
-        };
+        let vlan = OperationWord { word: self.vlan };
+        let own = OperationWord { word: self.own };
+        let header = StoredHeader::read(self.cells, self.n.number, self.c);
         let origin = Origin {
             tags,
             default: default_tag(header.default),
