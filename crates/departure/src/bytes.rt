@@ -100,8 +100,8 @@ impl<'a> Departing<'a> {
         tags::reading::decode(&self.cells[a..a + 20])
     }
 
-    // The tags with which the frame leaves, where these are its own. What was met is read again, behind a write: then the
-    // compiler keeps none of it in a register for the frames that leave as they are.
+    // The tags with which the frame leaves, where these are its own. A frame that leaves as it is needs no default header,
+    // so it is read here.
     #[inline(always)]
     #[tactic(auto, unfolding(rules::specs::Operations::leaving_tags, crate::specs::Frames::leaving_of, cells::specs::Stored::stored_operation, settings::specs::Ports::port_in, tags::specs::Numbers::origin_is), using(crate::proofs::Departs::vlan_good, crate::proofs::Departs::own_good, tags::proofs::Laws::leaving_count))]
     fn leaving(self, tags: Stack) -> Stack
@@ -124,13 +124,11 @@ impl<'a> Departing<'a> {
 
     // The frame's addresses, at the front of out.
     #[inline(always)]
-    #[tactic(auto, using(slices::proofs::Runs::part_back))]
     fn write_addresses(self, out: &mut [u8])
         requires { 12 ≤ length out.old }
         ensures { out.new ≡ sets out.old 0 (front_in self.entry.cells.now self.entry.c 12) }
     {
-        let a = self.place();
-        out[..12].copy_from_slice(&self.cells[a..a + 12]);
+        slices::copy_block::<12>(out, 0, self.cells, self.place());
     }
 
     // The addresses and the tags with which the frame leaves.
