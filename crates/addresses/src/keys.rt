@@ -17,7 +17,7 @@ pub fn key_of(gid: u32, address: u64) -> Key
     ensures { result.number ≡ key gid address }
 {
     Key {
-        number: gid as u64 * ADDRESSES + address,
+        number: u64::from(gid) * ADDRESSES + address,
     }
 }
 

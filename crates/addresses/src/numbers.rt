@@ -40,14 +40,14 @@ impl Number {
     pub fn learned_entry(key: Key, port: Port) -> Number
         ensures { result.0 ≡ learned_number key.number port.number }
     {
-        Number(key.number * KEY + LEARNED_ENTRY + port.number as u64 * PORT)
+        Number(key.number * KEY + LEARNED_ENTRY + u64::from(port.number) * PORT)
     }
 
     #[tactic(auto, unfolding(crate::specs::Numbers::number_of, crate::specs::Numbers::bit, rules::specs::Addresses::static_entry))]
     pub fn static_entry(key: Key, port: Port) -> Number
         ensures { result.0 ≡ static_number key.number port.number }
     {
-        Number(key.number * KEY + STATIC_ENTRY + port.number as u64 * PORT)
+        Number(key.number * KEY + STATIC_ENTRY + u64::from(port.number) * PORT)
     }
 
     pub fn is_used(self) -> bool

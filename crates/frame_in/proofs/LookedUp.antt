@@ -5,10 +5,10 @@ use mathlib.Core.Bool.{Bool, true, false, not}
 use mathlib.Core.List.{List}
 use native.Mathlib.Omega.{arith}
 use lib.ListN.{length, get_or}
-use Rattle.std.specs.Prelude.{Some as some, Ok, Err}
+use Rattle.std.specs.Prelude.{Some as some, Result, Ok, Err}
 use Rattle.rules.specs.Lines.{first}
 use Rattle.layout.specs.declared.damage.Damaged.{Damaged}
-use Rattle.rules.specs.Tags.{tags_of, destination, source}
+use Rattle.rules.specs.Tags.{tags_of, address_at, destination, source}
 use Rattle.rules.specs.Settings.{Port, Vlan, is_learning, queue_pcp}
 use Rattle.rules.specs.Addresses.{key}
 use Rattle.rules.specs.Arguments.{bit, port_of, vlan_entry}
@@ -54,6 +54,16 @@ pub record LessonAt (d g : LookUp) (k : ℕ) (lesson : Lesson) : Type 0 where
   pub destination : lesson.destination ≡ d
   pub source : lesson.source ≡ g
   pub key : lesson.key.number ≡ k
+
+-- the addresses as they were read
+pub destination_as : (m : List ℕ) (gid : ℕ) (frame : List ℕ) {a : ℕ} {r : Result LookUp Damaged}
+    → a ≡ address_at frame 0 → r ≡ destination_look_up m gid a → r ≡ destination_look_up m gid (destination frame)
+unfolding destination
+destination_as m gid frame is e = e ∙ ap (destination_look_up m gid) is
+
+pub source_as : (gid : ℕ) (frame : List ℕ) {a k : ℕ} → a ≡ address_at frame 6 → k ≡ key gid a → k ≡ key gid (source frame)
+unfolding source
+source_as gid frame is e = e ∙ ap (key gid) is
 
 module _ (links addresses frame : List ℕ) (n port : ℕ) where
   module _ (arrival : Arrival) (vlan : Entry) (m : Member links addresses frame n port arrival vlan) where

@@ -1,14 +1,10 @@
 // What happens to a frame, in the order of the table of reasons: nothing is written.
-ghost use Rattle.std.specs.Prelude.{◌≡◌, ◌≤◌, length};
-ghost use Rattle.rules.specs.Cells.{shortest};
-ghost use Rattle.rules.specs.Tags.{destination, source};
-ghost use Rattle.rules.specs.Addresses.{key};
-ghost use Rattle.arrival.specs.Candidates.{destination_look_up};
+ghost use Rattle.std.specs.Prelude.{◌≡◌};
 ghost use Rattle.arrival.specs.Plans.{no_masks};
 ghost use Rattle.frame_in.specs.Judged.{At, Lent, Judged};
 ghost use Rattle.frame_in.specs.Stages.{PastEarly, NoBpdu, Ordinary, AsBpdu, InEntry, Member, Tested};
 
-use addresses::{Key, LookUp, key_of, look_up};
+use addresses::{key_of, look_up};
 use arrival::candidates::{MANAGEMENT, candidates, chosen, destination_look_up, masks_of};
 use arrival::entering::{Arrival, absent, arrival_of, early, is_bpdu};
 use arrival::plan::{Lesson, Masks, Offer, Plan};
@@ -32,26 +28,6 @@ use tags::reading::address_at;
 
 // "The one candidate 4, queue 3, no tag operation at all": that queue.
 const BPDU_QUEUE: Queue = Queue { number: 3 };
-
-// What the destination's look-up finds.
-#[inline(always)]
-#[tactic(auto, unfolding(rules::specs::Tags::destination))]
-fn destination_found(addresses: &[u64; PLACES], gid: u32, frame: &[u8]) -> Result<LookUp, Damaged>
-    requires { (gid ≤ 15) × (shortest ≤ length frame.now) }
-    ensures { result ≡ destination_look_up addresses.now gid (destination frame.now) }
-{
-    destination_look_up(addresses, gid, address_at(frame, 0))
-}
-
-// The key by which the source is learned.
-#[inline(always)]
-#[tactic(auto, unfolding(rules::specs::Tags::source))]
-fn source_key(gid: u32, frame: &[u8]) -> Key
-    requires { (gid ≤ 15) × (shortest ≤ length frame.now) }
-    ensures { result.number ≡ key gid (source frame.now) }
-{
-    key_of(gid, address_at(frame, 6))
-}
 
 // Dropped before a port is tested.
 fn untested(reason: Reason, lesson: Option<Lesson>) -> Plan
@@ -98,8 +74,8 @@ impl Arriving<'_> {
         requires { At Member self arrival vlan }
         ensures { At Judged self.entry result }
     {
-        let destination = destination_found(self.addresses, vlan.gid, self.frame)?;
-        let key = source_key(vlan.gid, self.frame);
+        let destination = destination_look_up(self.addresses, vlan.gid, address_at(self.frame, 0))?;
+        let key = key_of(vlan.gid, address_at(self.frame, 6));
         let source = look_up(self.addresses, key)?;
         let switches = SwitchesWord::try_from(self.links[SWITCHES])?;
         let states = self.links[STATES];

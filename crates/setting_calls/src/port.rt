@@ -20,7 +20,7 @@ pub fn set_port(links: &mut [u32], port: u32, settings: PortSettings) -> Result<
     must(links_fit(links), Refusal::MemoryLength)?;
     let port = Port::try_from(port)?;
     let settings = CheckedPort::try_from(settings)?;
-    let states = StatesWord::try_from(links[STATES])?;
-    write_port(links, states, port, settings);
+    StatesWord::try_from(links[STATES])?;
+    write_port(links, port, settings);
     Ok(Done { x: 0, y: 0 })
 }

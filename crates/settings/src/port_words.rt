@@ -3,10 +3,10 @@ ghost use Rattle.std.specs.Prelude.{◌≡◌, ◌≤◌, length};
 ghost use Rattle.std.proofs.lemmas.List.Edits.{sets};
 ghost use Rattle.layout.specs.Places.{fixed_words, port_word};
 ghost use Rattle.settings.specs.Ports.{port_is};
-ghost use Rattle.settings.specs.Records.{states_at, port_words, port_written};
+ghost use Rattle.settings.specs.Records.{port_words, port_written};
 
 use crate::port::CheckedPort;
-use crate::states::StatesWord;
+use crate::states::with_state;
 use layout::ports::Port;
 use layout::{PORT, PORT_OPERATION, PORT_STRIDE, STATES};
 use rules::states::PortState;
@@ -20,13 +20,12 @@ pub fn write_words(links: &mut [u32], port: Port, settings: CheckedPort)
     links[PORT_OPERATION + PORT_STRIDE * port.index()] = settings.operation_word();
 }
 
-// `states` is the states' word as it stands.
 #[tactic(auto, using(crate::proofs::RangeLaws::port_range, crate::proofs::StateLaws::number_back), unfolding(crate::specs::Records::port_written))]
-pub fn write_port(links: &mut [u32], states: StatesWord, port: Port, settings: CheckedPort)
-    requires { (states.word ≡ states_at links.old) × (fixed_words ≤ length links.old) }
+pub fn write_port(links: &mut [u32], port: Port, settings: CheckedPort)
+    requires { fixed_words ≤ length links.old }
     ensures { links.new ≡ port_written links.old port.number (port_is settings.settings) }
 {
     let state = PortState::from(settings.settings.state);
-    links[STATES] = states.with_state(port, state);
+    links[STATES] = with_state(links[STATES], port, state);
     write_words(links, port, settings);
 }

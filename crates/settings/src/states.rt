@@ -60,15 +60,15 @@ impl StatesWord {
             Some(Reason::PortBlocking)
         }
     }
+}
 
-    #[tactic(auto, unfolding(crate::specs::States::with_state, crate::specs::States::opens, crate::specs::States::number_of))]
-    pub fn with_state(self, port: Port, state: PortState) -> u32
-        ensures { result ≡ with_state self.word port.number (number_of state) }
-    {
-        let opens = matches!(state, PortState::Disabled | PortState::Forwarding);
-        let learns = matches!(state, PortState::Learning | PortState::Forwarding);
-        let one = with_bit(self.word, port.number, opens);
-        let two = with_bit(one, SECOND + port.number, state == PortState::Listening);
-        with_bit(two, THIRD + port.number, learns)
-    }
+#[tactic(auto, unfolding(crate::specs::States::with_state, crate::specs::States::opens, crate::specs::States::number_of))]
+pub fn with_state(word: u32, port: Port, state: PortState) -> u32
+    ensures { result ≡ with_state word port.number (number_of state) }
+{
+    let opens = matches!(state, PortState::Disabled | PortState::Forwarding);
+    let learns = matches!(state, PortState::Learning | PortState::Forwarding);
+    let one = with_bit(word, port.number, opens);
+    let two = with_bit(one, SECOND + port.number, state == PortState::Listening);
+    with_bit(two, THIRD + port.number, learns)
 }

@@ -1,5 +1,5 @@
 // A frame's addresses and tags, read.
-ghost use Rattle.std.specs.Prelude.{◌≡◌, true, false, ◌+◌, ◌/◌, ◌≤◌, ◌<◌, length, MatchOption};
+ghost use Rattle.std.specs.Prelude.{◌≡◌, true, false, ◌+◌, ◌/◌, ◌^◌, ◌≤◌, ◌<◌, length, MatchOption};
 ghost use Rattle.rules.specs.Tags.{tags_of, tag_at, two_bytes_at, address_at, is_group, is_tag_type};
 ghost use Rattle.tags.specs.Numbers.{tag_is, stack_is};
 ghost use Rattle.tags.specs.Reading.{four_bytes_at, eight_bytes_at};
@@ -70,7 +70,7 @@ pub fn decode(frame: &[u8]) -> Stack
 #[tactic(auto, using(crate::proofs::Numbers::address_of_eight))]
 pub fn address_at(bytes: &[u8], i: usize) -> u64
     requires { i + 8 ≤ length bytes.now }
-    ensures { result ≡ address_at bytes.now i }
+    ensures { (result ≡ address_at bytes.now i) × (result < 2 ^ 48) }
 {
     eight_bytes(bytes, i) / 65536
 }
