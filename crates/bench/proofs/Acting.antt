@@ -1,6 +1,6 @@
 -- Each function of the run is an action of the session. Assumes nothing.
-use Rattle.std.proofs.Common.{◌≡◌, ℕ, ◌+◌, ◌%◌, ◌^◌, ◌≤◌, Bool, true, false, not, ◌&&◌, ◌||◌, eqb, List, [], ◌∷◌, ◌++◌, length, take, drop, sym, refl, ap, ◌∙◌, subst, ap₂, arith, length-append, length-take-le, Option, Result}
-use Rattle.std.specs.Prelude.{is_ok, is_err, IsOk, IsErr, Ok, Err}
+use Rattle.std.proofs.Common.{◌≡◌, ℕ, ◌+◌, ◌%◌, ◌^◌, ◌≤◌, Bool, true, false, not, ◌&&◌, eqb, List, [], ◌++◌, length, take, drop, sym, refl, ap, ◌∙◌, ap₂, length-append, length-take-le, Option, Result}
+use Rattle.std.specs.Prelude.{is_ok, is_err, Ok, Err}
 use Rattle.std.proofs.KnownBytes.{Consumes-nil, Appends-nil}
 use Rattle.std.specs.declared.io.Error.{Error}
 use native.Mathlib.Nat.{mod-add-mod}
@@ -21,7 +21,7 @@ use Rattle.bench.specs.Carried.{carried_out}
 use Rattle.bench.specs.Progressing.{number_after, waiting, next_at, record_in, Passed, Refilled, came, no_more, unread, Lined, Flushed}
 use Rattle.bench.specs.Switches.{memories_of}
 use Rattle.bench.specs.Outside.{Outside, outside}
-use Rattle.bench.specs.Sessions.{Session, acted, Allowed}
+use Rattle.bench.specs.Sessions.{Session, acted, Allowed, GoesOn}
 use Rattle.bench.specs.Sessions as action
 use Rattle.bench.specs.Played.{session_of, Counted, Leads}
 use Rattle.bench.proofs.Outside.{still}
@@ -86,10 +86,10 @@ module _ (was : Run) (came' handed : List ℕ) (counted : Counted was handed) wh
   ended = was.input.ended
 
   -- nothing is read
-  pub flush_leads : (lines : Lines) (left held after : Option (List ℕ)) (result : Result (Unit {0}) Error) (failed : Bool) → Flushed was.lines lines held after result
+  pub flush_leads : (lines : Lines) (left held after : Option (List ℕ)) (result : Result (Unit {0}) Error) (failed : Bool) → 1 ≤ length lines_now → Flushed was.lines lines held after result
       → failed ≡ is_err result → Leads now (outside left held) (with_lines was lines) failed (outside left after)
-  unfolding acted Allowed
-  flush_leads lines left held after result failed f e =
+  unfolding acted Allowed GoesOn
+  flush_leads lines left held after result failed some f e =
       let n = f.written in
       let whole : Bool = eqb n (length lines_now) in
       let broken : failed ≡ not whole = e ∙ failed_is result whole f.whole in
@@ -97,6 +97,7 @@ module _ (was : Run) (came' handed : List ℕ) (counted : Counted was handed) wh
       record {
         action = action.write n;
         allowed = f.enough;
+        goes_on = some;
         is = ap (λ (on : Bool). made m k w [] ended on (not whole) came' told) (stopped was.over whole failed broken)
             ∙ ap (λ (b : Bool). made m k w [] ended (not was.over && not failed) b came' told) (sym broken)
             ∙ ap₂ (λ (i : ℕ) (l : List ℕ). made m i w l ended (not was.over && not failed) failed came' told) (sym f.number) (sym f.waiting);
@@ -116,11 +117,12 @@ module _ (was : Run) (came' handed : List ℕ) (counted : Counted was handed) wh
     pub refill_leads : (input : Input) (left rest held : Option (List ℕ)) (result : Result (Unit {0}) Error) (failed : Bool) → next_at was.input ≡ More → lines_now ≡ []
         → Refilled was.input input left rest result → failed ≡ is_err result
         → Leads now (outside left held) (with_input was input) failed (outside rest held)
-    unfolding acted Allowed
+    unfolding acted Allowed GoesOn
     refill_leads input left rest held result failed more none (came bytes h x g b c ok) e =
         record {
           action = action.bring bytes;
           allowed = ((on, more, none), b);
+          goes_on = h;
           is = ap₂ (λ (l : List ℕ) (d : Bool). made m k l lines_now d now.on false (came' ++ bytes) handed) (sym x) (sym g)
               ∙ ap (λ (b : Bool). made m k (waiting input) lines_now input.ended (not was.over && not b) b (came' ++ bytes) handed) (sym (e ∙ failed_is result true ok));
           counted = counted;
@@ -131,6 +133,7 @@ module _ (was : Run) (came' handed : List ℕ) (counted : Counted was handed) wh
         record {
           action = action.no_more;
           allowed = (on, more, none);
+          goes_on = tt;
           is = ap₂ (λ (l : List ℕ) (d : Bool). made m k l lines_now d now.on false came' handed) (sym x) (sym g)
               ∙ ap (λ (b : Bool). made m k (waiting input) lines_now input.ended (not was.over && not b) b came' handed) (sym (e ∙ failed_is result true ok));
           counted = counted;
@@ -141,6 +144,7 @@ module _ (was : Run) (came' handed : List ℕ) (counted : Counted was handed) wh
         record {
           action = action.unread;
           allowed = (on, more, none);
+          goes_on = tt;
           is = ap₂ (λ (l : List ℕ) (d : Bool). made m k l lines_now d false true came' handed) (sym x) (sym g)
               ∙ ap (λ (b : Bool). made m k (waiting input) lines_now input.ended (not b && false) true came' handed) (sym goes)
               ∙ ap (λ (b : Bool). made m k (waiting input) lines_now input.ended (not was.over && not b) b came' handed) (sym (e ∙ bad));
@@ -152,11 +156,12 @@ module _ (was : Run) (came' handed : List ℕ) (counted : Counted was handed) wh
     -- nothing is read and nothing written
     module _ (around : Outside) where
       pub finish_leads : next_at was.input ≡ Finished → Leads now around (ended_with was was.lines) false around
-      unfolding acted Allowed
+      unfolding acted Allowed GoesOn
       finish_leads e =
           record {
             action = action.finish;
             allowed = (on, e);
+            goes_on = tt;
             is = refl;
             counted = counted;
             moved = still around;
@@ -165,11 +170,12 @@ module _ (was : Run) (came' handed : List ℕ) (counted : Counted was handed) wh
 
       pub cut_leads : (lines : Lines) → next_at was.input ≡ Cut → Lined was.lines lines 0 (refused_by bad_record)
           → Leads now around (ended_with was lines) false around
-      unfolding acted Allowed
+      unfolding acted Allowed GoesOn
       cut_leads lines e f =
           record {
             action = action.cut;
             allowed = (on, e);
+            goes_on = tt;
             is = ap₂ (λ (i : ℕ) (l : List ℕ). made m i w l ended false false came' handed) (sym f.number) (sym f.waiting);
             counted = f.sent ∙ counted;
             moved = still around;
@@ -181,13 +187,14 @@ module _ (was : Run) (came' handed : List ℕ) (counted : Counted was handed) wh
           → (answer, memories_of switch) ≡ carried_out (memories_of was.switch) was.switch.out (record_in (waiting was.input) long) (request_of (record_in (waiting was.input) long))
           → Lined was.lines lines (kind_of (record_in (waiting was.input) long)) answer
           → Passed was.input input long → Leads now around (played_with was switch input lines) false around
-      unfolding acted Allowed
+      unfolding acted Allowed GoesOn
       play_leads long switch input lines answer e room done f g =
           let bytes : List ℕ = record_in w long in
           let rest : List ℕ = drop (2 + long) w in
           record {
             action = action.play long was.switch.out;
             allowed = (on, e, room);
+            goes_on = tt;
             is = ap (λ (d : Answer × Memories). made d.1 (number_after k) rest (lines_now ++ line_of (number_after k) (kind_of bytes) d.0) ended now.on false came' handed) (sym done)
                 ∙ ap₂ (λ (i : ℕ) (l : List ℕ). made (memories_of switch) i rest l ended now.on false came' handed) (sym f.number) (sym f.waiting)
                 ∙ ap₂ (λ (l : List ℕ) (d : Bool). made (memories_of switch) lines.number l lines.waiting.bytes d now.on false came' handed) (sym g.waiting) (sym g.ended);

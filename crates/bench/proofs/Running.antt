@@ -1,17 +1,13 @@
 -- The loop of the run: so many actions so far, and so many turns left. Assumes nothing.
-use Rattle.std.proofs.Common.{◌≡◌, ℕ, suc, ◌+◌, ◌-◌, ◌^◌, ◌≤◌, Bool, true, false, not, ◌&&◌, ◌⊎◌, List, [], ◌++◌, length, sym, refl, ap, ◌∙◌, subst, inl, inr, add-one, arith, Option, Result}
-use Rattle.std.specs.Prelude.{is_err}
-use Rattle.std.specs.declared.io.Error.{Error}
+use Rattle.std.proofs.Common.{◌≡◌, ℕ, suc, ◌+◌, ◌-◌, ◌^◌, ◌≤◌, Bool, true, false, not, ◌&&◌, ◌⊎◌, List, [], ◌++◌, sym, refl, ap, ◌∙◌, subst, inl, inr, add-one}
 use Rattle.machine.specs.History.{fresh}
 use Rattle.gufhrandi.specs.Memories.{Memories}
 use Rattle.bench.specs.declared.run.Run.{Run}
-use Rattle.bench.specs.declared.lines.Lines.{Lines}
-use Rattle.bench.specs.Progressing.{Flushed}
 use Rattle.bench.specs.Switches.{memories_of}
-use Rattle.bench.specs.Sessions.{Session, acted, beginning, Ran, starts, acts}
+use Rattle.bench.specs.Sessions.{Session, acted, beginning, Ran, starts, acts, Went, begins, goes}
 use Rattle.bench.specs.SessionTheorems.{bench_cells, Fresh}
-use Rattle.bench.specs.Outside.{Outside, outside, Moved}
-use Rattle.bench.specs.Played.{session_of, Counted, Leads, Steps, IsNew, Played}
+use Rattle.bench.specs.Outside.{Outside, Moved}
+use Rattle.bench.specs.Played.{session_of, Counted, Steps, IsNew, Played}
 use Rattle.bench.specs.Told.{Told}
 use Rattle.bench.proofs.Outside.{still, moved_on, IsAll, all_on, of_all}
 use Rattle.bench.proofs.Telling.{session_theorems}
@@ -21,6 +17,7 @@ pub record Running (start : Memories) (was : Outside) (r : Run) (failed : Bool) 
   pub came : List ℕ
   pub handed : List ℕ
   pub ran : Ran (beginning start) count (session_of r failed came handed)
+  pub went : Went (beginning start) count (session_of r failed came handed)
   pub counted : Counted r handed
   pub moved : Moved was now came handed
   pub all : r.input.ended ≡ true → IsAll was.left came
@@ -31,6 +28,7 @@ running_first r was new =
       came = [];
       handed = [];
       ran = subst (Ran (beginning (memories_of r.switch)) 0) same starts;
+      went = subst (Went (beginning (memories_of r.switch)) 0) same begins;
       counted = new.sent;
       moved = still was;
       all = λ e. absurd (let z : ◌≡◌ {A = Bool} false true = sym new.ended ∙ e in cc);
@@ -52,6 +50,7 @@ module _ (start : Memories) (was : Outside) (r : Run) (around : Outside) (count 
         came = (acted l.action now).came;
         handed = (acted l.action now).handed;
         ran = rw add-one (subst (Ran (beginning start) (suc count)) l.is (acts l.action running.ran l.allowed));
+        went = rw add-one (subst (Went (beginning start) (suc count)) l.is (goes l.action running.went l.allowed l.goes_on));
         counted = l.counted;
         moved = moved;
         all = λ e. all_on l.action now was then moved l.ends running.all (ap (λ (s : Session). s.ended) l.is ∙ e);
@@ -67,6 +66,7 @@ played start was r failed now count running fresh_start no_line over =
       handed = running.handed;
       count = count;
       ran = running.ran;
+      went = running.went;
       counted = running.counted;
       moved = running.moved;
       over = over;

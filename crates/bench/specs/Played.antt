@@ -1,6 +1,7 @@
 -- The code's state as a session, a step of the code as an action, and the whole run. Assumes nothing: these are
 -- definitions.
-use Rattle.std.specs.Prelude.{◌≡◌, ℕ, ◌+◌, ◌-◌, ◌%◌, ◌^◌, ◌≤◌, Bool, true, false, not, ◌&&◌, ◌⊎◌, List, [], ◌++◌, length, IfSome}
+use Rattle.std.specs.Prelude.{◌≡◌, ◌+◌, ◌-◌, ◌%◌, ◌^◌, ◌≤◌, ◌&&◌, ◌⊎◌, ◌++◌}
+use Rattle.std.specs.Prelude.{ℕ, Bool, true, false, not, List, [], length, IfSome}
 use Rattle.std.specs.Io.KnownBytes.{IsAtEnd}
 use Rattle.machine.specs.History.{fresh}
 use Rattle.gufhrandi.specs.Memories.{Memories}
@@ -9,7 +10,7 @@ use Rattle.bench.specs.Progressing.{waiting}
 use Rattle.bench.specs.Switches.{memories_of}
 use Rattle.bench.specs.Told.{Told}
 use Rattle.bench.specs.Outside.{Outside, Moved}
-use Rattle.bench.specs.Sessions.{Session, Action, no_more, acted, read_by, written_by, Allowed, Ran, beginning}
+use Rattle.bench.specs.Sessions.{Session, Action, no_more, acted, read_by, written_by, Allowed, GoesOn, Ran, Went, beginning}
 use Rattle.bench.specs.SessionTheorems.{bench_cells, Fresh}
 
 -- `failed`: reading or writing has failed; `came` and `handed`: what was read and written so far, which no variable holds
@@ -35,6 +36,7 @@ Counted r handed = r.lines.sent ≡ length handed % 2 ^ 64
 pub record Leads (s : Session) (was : Outside) (r : Run) (failed : Bool) (now : Outside) : Type 0 where
   pub action : Action
   pub allowed : Allowed action s
+  pub goes_on : GoesOn action s
   pub is : acted action s ≡ session_of r failed (acted action s).came (acted action s).handed
   pub counted : Counted r (acted action s).handed
   pub moved : Moved was now (read_by action) (written_by action s)
@@ -65,6 +67,7 @@ pub record Played (start : Memories) (was : Outside) (r : Run) (failed : Bool) (
   pub handed : List ℕ
   pub count : ℕ
   pub ran : Ran (beginning start) count (session_of r failed came handed)
+  pub went : Went (beginning start) count (session_of r failed came handed)
   pub counted : Counted r handed
   -- What came is what the reader gave, and what was handed over is what the writer took.
   pub moved : Moved was now came handed

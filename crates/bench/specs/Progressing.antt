@@ -1,5 +1,6 @@
 -- What each function of the run makes of the input and of the lines. Assumes nothing: these are definitions.
-use Rattle.std.specs.Prelude.{◌≡◌, ℕ, ◌+◌, ◌%◌, ◌^◌, ◌≤◌, true, List, [], ◌++◌, length, take, drop, slice_range, ◌==◌, Option, Result, is_ok, IsOk, IsErr}
+use Rattle.std.specs.Prelude.{◌≡◌, ◌+◌, ◌%◌, ◌^◌, ◌≤◌, ◌++◌, ◌==◌}
+use Rattle.std.specs.Prelude.{ℕ, true, List, [], length, take, drop, slice_range, Option, Result, is_ok, IsOk, IsErr}
 use Rattle.std.specs.Io.KnownBytes.{Consumes, Appends, IsAtEnd}
 use Rattle.std.specs.declared.io.Error.{Error}
 use Rattle.rules.specs.Tags.{Bytes}

@@ -1,6 +1,7 @@
 -- A session of the bench program: what it holds, what it can do next, and what that makes of it. Assumes nothing: these
 -- are definitions.
-use Rattle.std.specs.Prelude.{◌≡◌, ℕ, zero, suc, ◌+◌, ◌≤◌, Bool, true, false, not, ◌&&◌, ◌||◌, List, [], ◌++◌, length, take, drop, ◌==◌}
+use Rattle.std.specs.Prelude.{◌≡◌, ◌+◌, ◌≤◌, ◌&&◌, ◌||◌, ◌++◌, ◌==◌}
+use Rattle.std.specs.Prelude.{ℕ, zero, suc, Bool, true, false, not, List, [], length, take, drop}
 use Rattle.rules.specs.Tags.{Bytes}
 use Rattle.rules.specs.Cells.{largest_result}
 use Rattle.rules.specs.declared.refusals.Refusal.TheVariants.{BadRecord as bad_record}
@@ -192,3 +193,19 @@ Allowed (play long out) s =
 pub data Ran (start : Session) : ℕ → Session → Type 0 where
   starts : Ran start zero start
   acts : {k : ℕ} {s : Session} (a : Action) → Ran start k s → Allowed a s → Ran start (suc k) (acted a s)
+
+-- Does an action go on? What is written was waiting, what is brought is not nothing; the others take a record, or end the
+-- input or the run.
+unfoldable pub GoesOn : Action → Session → Type 0
+GoesOn (write n) s = 1 ≤ length s.lines
+GoesOn (bring bytes) s = 1 ≤ length bytes
+GoesOn no_more s = Unit {0}
+GoesOn unread s = Unit {0}
+GoesOn finish s = Unit {0}
+GoesOn cut s = Unit {0}
+GoesOn (play long out) s = Unit {0}
+
+-- so many actions, each of which goes on
+pub data Went (start : Session) : ℕ → Session → Type 0 where
+  begins : Went start zero start
+  goes : {k : ℕ} {s : Session} (a : Action) → Went start k s → Allowed a s → GoesOn a s → Went start (suc k) (acted a s)

@@ -1,5 +1,5 @@
 // The run: one record after the other.
-ghost use Rattle.std.specs.Prelude.{◌≡◌, true, false, Option, List, [], ℕ, is_err};
+ghost use Rattle.std.specs.Prelude.{◌≡◌, ◌≤◌, true, false, Option, List, [], ℕ, length, is_err};
 ghost use Rattle.records.specs.declared.framing.Next.TheVariants.{More, Cut, Whole};
 ghost use Rattle.bench.specs.Outside.{Outside, outside};
 ghost use Rattle.bench.specs.Progressing.{next_at};
@@ -40,6 +40,7 @@ impl Run {
 
     // Writes the lines that wait. Where that fails the run ends: a line behind a gap would tell of another record.
     fn flush<W: Write>(&mut self, writer: &mut W) -> Result<(), Failure>
+        requires { 1 ≤ length self.old.lines.waiting.bytes }
         ensures steps { (left : Option (List ℕ))
             → Steps self.old (outside left (W.contents writer.old)) self.new (is_err result)
             (outside left (W.contents writer.new)) }
@@ -113,6 +114,9 @@ impl Run {
                 break;
             }
             self.step(reader, writer)?;
+        }
+        if !self.lines.wait() {
+            return Ok(());
         }
         self.flush(writer)
     }

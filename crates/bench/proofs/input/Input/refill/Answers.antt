@@ -1,5 +1,5 @@
 -- What was left has room behind it.
-use Rattle.std.proofs.Common.{◌-◌, ◌<◌, [], length, arith, refl}
+use Rattle.std.proofs.Common.{◌-◌, ◌<◌, [], arith, refl}
 use Rattle.std.proofs.KnownBytes.{Consumes-nil, Consumes-kept}
 use Rattle.bench.specs.Progressing.{waiting, unread}
 use Rattle.bench.proofs.Reading.{left_length, kept, come, more_has_room, refilled}

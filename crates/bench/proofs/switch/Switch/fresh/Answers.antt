@@ -1,5 +1,5 @@
 -- The memories have the lengths for 200 cells.
-use Rattle.std.proofs.Common.{ℕ, rules}
+use Rattle.std.proofs.Common.{ℕ}
 use lib.ListN.{length-replicate}
 use Rattle.bench.proofs.Starting.{starts_fresh}
 use Rattle.bench.proofs.switch.Switch.fresh.Goals as goal
