@@ -21,14 +21,21 @@ pub fn key_of(gid: u32, address: u64) -> Key
     }
 }
 
+// The ten-bit groups of a number, joined by exclusive or: the upper three groups over the lower three, and then those
+// three.
+#[tactic(auto, using(crate::proofs::Xor::bucket_folded, rules::proofs::Places::bucket_below))]
+pub fn bucket_of(number: u64) -> usize
+    ensures { (result ≡ bucket_of number) × (result < 1024) }
+{
+    let folded = number ^ (number >> 30);
+    let joined = folded ^ (folded >> 10) ^ (folded >> 20);
+    (joined % 1024) as usize
+}
+
 impl Key {
-    // The ten-bit groups, joined by exclusive or: the upper three groups over the lower three, and then those three.
-    #[tactic(auto, using(crate::proofs::Xor::bucket_folded, rules::proofs::Places::bucket_below))]
     pub fn bucket(self) -> usize
         ensures { (result ≡ bucket_of self.number) × (result < 1024) }
     {
-        let folded = self.number ^ (self.number >> 30);
-        let joined = folded ^ (folded >> 10) ^ (folded >> 20);
-        (joined % 1024) as usize
+        bucket_of(self.number)
     }
 }

@@ -8,7 +8,7 @@ pub mod searches; // look-ups
 pub mod changes; // of one place, or of every one
 
 pub use changes::{age, all_in_range, forget_all, learn, mark, remove, set_static};
-pub use keys::{Key, key_of};
+pub use keys::{Key, bucket_of, key_of};
 pub use searches::{look_up, whole_search};
 
 #[derive(Clone, Copy)]

@@ -2,7 +2,7 @@
 ghost use Rattle.std.specs.Prelude.{◌≡◌, ◌<◌};
 ghost use Rattle.rules.specs.Numbers.{place_count};
 ghost use Rattle.addresses.specs.Search.{look_up};
-ghost use Rattle.addresses.specs.Turns.{place_at, empty_so_far, answer_at};
+ghost use Rattle.addresses.specs.Turns.{place_at, empty_so_far, answer_at, told_by, match_place};
 
 use crate::LookUp;
 use crate::keys::Key;
@@ -58,16 +58,19 @@ fn answer_at(number: Number, place: usize) -> Result<LookUp, Damaged>
     }
 }
 
-#[tactic(auto, using(crate::proofs::Search::look_up_seek, crate::proofs::Search::seek_end, crate::proofs::Search::seek_met, crate::proofs::Search::seek_next), unfolding(crate::specs::Search::answered))]
-pub fn whole_search(addresses: &[u64; PLACES], key: Key) -> Result<LookUp, Damaged>
-    ensures { result ≡ look_up addresses.now key.number }
+// A match is told with its number as it stands: whether that is in range is asked behind it. So a look-up goes from here to
+// its caller in two words, and each call that changes a place gets on without a slot that has to be cleared.
+#[tactic(auto, using(crate::proofs::Search::look_up_seek, crate::proofs::Search::seek_end, crate::proofs::Search::seek_met, crate::proofs::Search::seek_next), unfolding(crate::specs::Search::answered, crate::specs::Turns::told_by))]
+fn search_places(addresses: &[u64; PLACES], key: Key) -> LookUp
+    ensures told { told_by addresses.now result ≡ look_up addresses.now key.number }
+    ensures inside { match_place result < place_count }
 {
     let bucket = key.bucket();
     let mut empty = None;
     let mut turn = 0;
     let found = 'search: loop {
         if turn == TURNS {
-            return Ok(empty.map_or(LookUp::Full, LookUp::Vacant));
+            return empty.map_or(LookUp::Full, LookUp::Vacant);
         }
         let place = place_at(bucket, turn);
         let number = Number(addresses[place]);
@@ -77,7 +80,21 @@ pub fn whole_search(addresses: &[u64; PLACES], key: Key) -> Result<LookUp, Damag
         empty = first_empty(empty, number, place);
         turn += 1;
     };
-    answer_at(Number(addresses[found]), found)
+    LookUp::Found {
+        port: Number(addresses[found]).port(),
+        place: found,
+    }
+}
+
+#[inline(always)]
+#[tactic(auto, unfolding(crate::specs::Turns::told_by))]
+pub fn whole_search(addresses: &[u64; PLACES], key: Key) -> Result<LookUp, Damaged>
+    ensures { result ≡ look_up addresses.now key.number }
+{
+    match search_places(addresses, key) {
+        LookUp::Found { place, .. } => answer_at(Number(addresses[place]), place),
+        unmatched => Ok(unmatched),
+    }
 }
 
 // The same answer, for frames: most matches stand in the bucket, so only its four places come before the whole search.
@@ -87,11 +104,13 @@ pub fn look_up(addresses: &[u64; PLACES], key: Key) -> Result<LookUp, Damaged>
     ensures { result ≡ look_up addresses.now key.number }
 {
     let from = key.bucket() * WAYS;
-    for place in from..from + WAYS {
-        let number = Number(addresses[place]);
-        if number.is_entry(key) {
-            return answer_at(number, place);
+    let found = 'ways: {
+        for place in from..from + WAYS {
+            if Number(addresses[place]).is_entry(key) {
+                break 'ways place;
+            }
         }
-    }
-    whole_search(addresses, key)
+        return whole_search(addresses, key);
+    };
+    answer_at(Number(addresses[found]), found)
 }

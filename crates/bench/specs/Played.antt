@@ -51,6 +51,15 @@ Steps r was after failed now =
 abbrev pub HasRoom : Run → Type 0
 HasRoom r = length r.lines.waiting.bytes + 64 ≤ 65536
 
+-- the run before the first byte is read, and before the fresh call
+pub record IsUnread (r : Run) : Type 0 where
+  pub number : r.lines.number ≡ 0
+  pub waiting : waiting r.input ≡ []
+  pub lines : r.lines.waiting.bytes ≡ []
+  pub sent : r.lines.sent ≡ 0
+  pub ended : r.input.ended ≡ false
+  pub over : r.over ≡ false
+
 -- the run before the first byte is read, on a fresh switch
 pub record IsNew (r : Run) : Type 0 where
   pub fresh_switch : Fresh (memories_of r.switch)

@@ -6,6 +6,7 @@ ghost use Rattle.bench.specs.Progressing.{Lined, Flushed};
 use crate::device::send;
 use arrayvec::ArrayString;
 use layout::answers::Answer;
+use records::put_line;
 use std::io::{Result, Write};
 
 #[derive(Drop)]
@@ -48,8 +49,7 @@ impl Lines {
         ensures { Lined self.old self.new kind answer }
     {
         self.number = self.number.wrapping_add(1);
-        let line = records::line(self.number, kind, answer);
-        self.waiting.push_str(line.as_str());
+        put_line(&mut self.waiting, self.number, u32::from(kind), answer);
     }
 
     // Writes the lines that wait.

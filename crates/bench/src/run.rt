@@ -5,12 +5,12 @@ ghost use Rattle.bench.specs.Outside.{Outside, outside};
 ghost use Rattle.bench.specs.Progressing.{next_at};
 ghost use Rattle.bench.specs.Switches.{memories_of};
 ghost use Rattle.bench.specs.SessionTheorems.{Fresh};
-ghost use Rattle.bench.specs.Played.{Steps, Played, IsNew, HasRoom};
+ghost use Rattle.bench.specs.Played.{Steps, Played, IsUnread, IsNew, HasRoom};
 
 use crate::failure::Failure;
 use crate::input::Input;
 use crate::lines::Lines;
-use crate::switch::Switch;
+use crate::switch::{EMPTY, Switch};
 use layout::answers::Answer;
 use records::{Next, kind_of};
 use rules::refusals::Refusal;
@@ -26,16 +26,24 @@ pub struct Run {
 }
 
 impl Run {
-    // One on a fresh switch, before the first byte is read.
+    // One before the first byte is read.
     pub fn new() -> Run
-        ensures { IsNew result }
+        ensures { IsUnread result }
     {
         Run {
-            switch: Switch::fresh(),
+            switch: EMPTY,
             input: Input::new(),
             lines: Lines::new(),
             over: false,
         }
+    }
+
+    // On a fresh switch. It is made where the run stands: a run that is handed out behind that would be copied.
+    pub fn start(&mut self)
+        requires { IsUnread self.old }
+        ensures { IsNew self.new }
+    {
+        self.switch.start();
     }
 
     // Writes the lines that wait. Where that fails the run ends: a line behind a gap would tell of another record.

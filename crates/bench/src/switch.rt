@@ -19,19 +19,21 @@ pub struct Switch {
     out: [u8; 4091],
 }
 
+// Memories that no call was made on.
+pub const EMPTY: Switch = Switch {
+    cells: [0; 16000],
+    links: [0; 5024],
+    addresses: [0; 4112],
+    out: [0; 4091],
+};
+
 impl Switch {
-    // "Fresh": one of 200 cells.
-    pub fn fresh() -> Switch
-        ensures { Fresh (memories_of result) }
+    // "Fresh": one of 200 cells, whatever the memories held. It is made where the memories stand: a switch that is handed
+    // out would be copied.
+    pub fn start(&mut self)
+        ensures { Fresh (memories_of self.new) }
     {
-        let mut switch = Switch {
-            cells: [0; 16000],
-            links: [0; 5024],
-            addresses: [0; 4112],
-            out: [0; 4091],
-        };
-        begin(&switch.cells, &mut switch.links, &mut switch.addresses);
-        switch
+        begin(&self.cells, &mut self.links, &mut self.addresses);
     }
 
     // A take: the line shows how long the part of the buffer is that was written.

@@ -70,9 +70,9 @@ fn pad(out: &mut [u8], long: usize) -> usize
 
 // What follows the frame's first `from` bytes is to go into the buffer, from place `at` on.
 #[derive(Clone, Copy)]
-struct Front {
-    from: usize,
-    at: usize,
+pub struct Front {
+    pub from: usize,
+    pub at: usize,
 }
 
 // What was written: how many bytes. Besides, the last cell that was read, where the frame's cells end.

@@ -81,7 +81,7 @@ impl<'a> Departing<'a> {
         if !header_fits(header, own, word) {
             return Err(Damaged);
         }
-        let Some(left) = left_of_word(links, n, port, c, word) else {
+        let Some(left) = left_of_word(links, n.number, port, c, word) else {
             return Err(Damaged);
         };
         Ok(Departing {

@@ -17,7 +17,7 @@ fn all_can_leave(links: &[u32], n: CellCount, port: Port, queue: Queue) -> bool
 {
     let mut c = queues::oldest(links, n.number, port, queue);
     for _ in 0..n.number {
-        if word_left(links, n, port, c as u32).is_none() {
+        if word_left(links, n.number, port, c as u32).is_none() {
             return false;
         }
         if queues::is_youngest(links, port, queue, c) {
@@ -59,7 +59,7 @@ fn drop_copy(links: &mut [u32], n: CellCount, port: Port, c: u32)
     requires { link_words n.number ≤ length links.old }
     ensures { links.new ≡ spec.dropped n.number port.number c links.old }
 {
-    if let Some(left) = word_left(links, n, port, c) {
+    if let Some(left) = word_left(links, n.number, port, c) {
         let last = cells::free::last(links, n.number, c);
         depart_from(links, n, port, c, last, left);
     }

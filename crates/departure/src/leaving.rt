@@ -25,17 +25,16 @@ fn turned(word: u32, port: Port) -> u32
 // The word of a frame in range when its copy has left: none if the frame does not wait at the port, or if this is its
 // last copy and its cells do not fit beside the free ones. `word` is its word before.
 #[tactic(auto, using(crate::proofs::Copies::size_left, crate::proofs::Copies::copy_leaves, crate::proofs::Copies::last_leaves, crate::proofs::Copies::no_room, crate::proofs::Copies::no_copy))]
-pub fn left_of_word(links: &[u32], n: CellCount, port: Port, c: u32, word: u32) -> Option<u32>
-    requires { (link_words n.number ≤ length links.now) × (c < n.number) × (is_frame c links.now ≡ true)
-        × (word ≡ word_of links.now c) }
-    ensures { result ≡ spec.word_left n.number port.number c links.now }
+pub fn left_of_word(links: &[u32], n: usize, port: Port, c: u32, word: u32) -> Option<u32>
+    requires { (link_words n ≤ length links.now) × (c < n) × (is_frame c links.now ≡ true) × (word ≡ word_of links.now c) }
+    ensures { result ≡ spec.word_left n port.number c links.now }
 {
     let left = turned(word, port);
     if left < word {
         if left % SIZE_UNIT != 0 {
             return Some(left);
         }
-        if cells::free::can_give_back(links, n.number, c, left / SIZE_UNIT) {
+        if cells::free::can_give_back(links, n, c, left / SIZE_UNIT) {
             return Some(left);
         }
     }
@@ -44,15 +43,15 @@ pub fn left_of_word(links: &[u32], n: CellCount, port: Port, c: u32, word: u32) 
 
 // Is all that is met when this frame's copy leaves in range? Then its word when the copy has left.
 #[tactic(auto, using(crate::proofs::Copies::no_cell, crate::proofs::Copies::no_frame))]
-pub fn word_left(links: &[u32], n: CellCount, port: Port, c: u32) -> Option<u32>
-    requires { link_words n.number ≤ length links.now }
-    ensures { result ≡ spec.word_left n.number port.number c links.now }
+pub fn word_left(links: &[u32], n: usize, port: Port, c: u32) -> Option<u32>
+    requires { link_words n ≤ length links.now }
+    ensures { result ≡ spec.word_left n port.number c links.now }
 {
-    if n.number <= c as usize {
+    if n <= c as usize {
         return None;
     }
-    if cells::free::is_frame(links, n.number, c) {
-        left_of_word(links, n, port, c, cells::free::word(links, n.number, c))
+    if cells::free::is_frame(links, n, c) {
+        left_of_word(links, n, port, c, cells::free::word(links, n, c))
     } else {
         None
     }

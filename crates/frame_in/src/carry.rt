@@ -108,8 +108,8 @@ fn take_lesson(addresses: &mut [u64; PLACES], port: Port, lesson: Option<Lesson>
     let Some(lesson) = lesson else {
         return false;
     };
-    mark(addresses, lesson.destination);
-    !learn(addresses, lesson.source, lesson.key, port)
+    mark(addresses, Ok(lesson.destination));
+    !learn(addresses, Ok(lesson.source), lesson.key, port)
 }
 
 #[tactic(auto, unfolding(crate::specs::Carried::count_if))]

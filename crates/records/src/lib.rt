@@ -8,6 +8,6 @@ mod reading;
 mod requests;
 
 pub use framing::{Next, next_in};
-pub use lines::line;
+pub use lines::{line, put_line};
 pub use reading::kind_of;
 pub use requests::{frame_of, request_of};

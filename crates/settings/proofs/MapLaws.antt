@@ -11,7 +11,7 @@ use Rattle.settings.specs.Maps.{is_map_word, queue_in, bpdu_in, with_queue, with
 unfoldable pub two_bits : Bool → Bool → ℕ
 two_bits a b = (if a then 1 else 0) + (if b then 2 else 0)
 
-queue_bits : (w pcp : ℕ) → queue_in w pcp ≡ two_bits (bit w (2 * pcp)) (bit w (2 * pcp + 1))
+pub queue_bits : (w pcp : ℕ) → queue_in w pcp ≡ two_bits (bit w (2 * pcp)) (bit w (2 * pcp + 1))
 unfolding queue_in bit two_bits
 queue_bits w pcp = grind (arith, common_steps, shr-shr w (2 * pcp) 1)
 

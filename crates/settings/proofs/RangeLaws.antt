@@ -4,7 +4,7 @@ use Rattle.std.proofs.lemmas.Bool.Decides.{nat_tests}
 use Rattle.rules.specs.Arguments.{is_vid, OperationNumbers, operation_in_range, PortNumbers, port_in_range, VlanNumbers, vlan_in_range}
 use Rattle.settings.specs.Ranges.{OperationRange, VidRange, PortRange, VlanRange}
 
-vid_range : (vid : ℕ) → is_vid vid ≡ true → VidRange vid
+pub vid_range : (vid : ℕ) → is_vid vid ≡ true → VidRange vid
 unfolding is_vid
 vid_range vid e = grind (arith, nat_tests)
 

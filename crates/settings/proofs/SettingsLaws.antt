@@ -59,7 +59,7 @@ module _ (l : List ℕ) (at v : ℕ) (low : at < vlan_word 0) where
 -- ---- the map's word: the queue of a PCP, and BPDU handling
 
 module _ (l : List ℕ) (v : ℕ) (long : fixed_words ≤ length l) where
-  map_set :
+  pub map_set :
       settings_of (set l map_word v)
       ≡ record {
         port = (settings_of l).port;

@@ -80,7 +80,7 @@ module _ (l : List ℕ) (count : ℕ) (long : fixed_words ≤ length l) where
   pub count_set : vlan_count (set l vlan_count_word count) ≡ count
   count_set = grind (arith, common_steps)
 
-  entry_kept : (e : ℕ) → vlan_at (set l vlan_count_word count) e ≡ vlan_at l e
+  pub entry_kept : (e : ℕ) → vlan_at (set l vlan_count_word count) e ≡ vlan_at l e
   entry_kept e = grind (arith, common_steps)
 
 -- "a new VID takes the next entry"
@@ -116,7 +116,7 @@ module _ (l : List ℕ) (e : ℕ) (long : fixed_words ≤ length l) (there : e <
       let ws = later_words l e ++ replicate 2 0 in
       grind (arith, get_d_sets_inside l (vlan_word e) ws (2 * i + k) 0, get_or-append (later_words l e) (replicate 2 0) 0 (2 * i + k), later_inside (2 * i + k), run_length, later_length)
 
-  moved_entry :
+  pub moved_entry :
       (i : ℕ) → e ≤ i → i < vlan_count l - 1 → vlan_at (sets l (vlan_word e) (later_words l e ++ replicate 2 0)) i ≡ vlan_at l (i + 1)
   moved_entry i h k = grind (arith, moved_word (i - e) 0, moved_word (i - e) 1)
 

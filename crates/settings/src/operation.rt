@@ -51,11 +51,11 @@ impl OperationSettings {
 }
 
 // What a unit of each field is worth; the kind stands below the type.
-const TYPE: u32 = 8;
+pub const TYPE: u32 = 8;
 
-const VID_SOURCE: u32 = 16;
+pub const VID_SOURCE: u32 = 16;
 
-const PCP_SOURCE: u32 = 64;
+pub const PCP_SOURCE: u32 = 64;
 
 const DEI: u32 = 256;
 

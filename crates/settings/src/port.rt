@@ -79,9 +79,9 @@ impl CheckedPort {
 // What a unit of each field is worth; assignment stands below the flags.
 const FLAGS: u32 = 4;
 
-const DEI: u32 = 32;
+pub const DEI: u32 = 32;
 
-const PCP: u32 = 64;
+pub const PCP: u32 = 64;
 
 // On top, also of a VLAN's word.
 pub const VID: u32 = 512;
@@ -108,6 +108,13 @@ impl TryFrom<u32> for PortWord {
     }
 }
 
+// The VID assignment in a word: 3 reads as 2.
+pub fn assignment_in(word: u32) -> u32
+    ensures { result ≡ min (word % 4) 2 }
+{
+    (word % 4).min(2)
+}
+
 impl PortWord {
     pub fn vid(self) -> u32
         ensures { result ≡ vid_in self.word }
@@ -121,11 +128,10 @@ impl PortWord {
         self.word / PCP % 8
     }
 
-    // The VID assignment: 3 reads as 2.
     pub fn assignment(self) -> u32
         ensures { result ≡ min (self.word % 4) 2 }
     {
-        (self.word % 4).min(2)
+        assignment_in(self.word)
     }
 
     // "The flags to drop frames with 0, 1 or 2 tags."

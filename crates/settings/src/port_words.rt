@@ -9,9 +9,9 @@ use crate::port::CheckedPort;
 use crate::states::with_state;
 use layout::ports::Port;
 use layout::{PORT, PORT_OPERATION, PORT_STRIDE, STATES};
-use rules::states::PortState;
 
 // All but the state.
+#[inline(always)]
 pub fn write_words(links: &mut [u32], port: Port, settings: CheckedPort)
     requires { fixed_words ≤ length links.old }
     ensures { links.new ≡ sets links.old (port_word port.number) (port_words (port_is settings.settings)) }
@@ -20,12 +20,13 @@ pub fn write_words(links: &mut [u32], port: Port, settings: CheckedPort)
     links[PORT_OPERATION + PORT_STRIDE * port.index()] = settings.operation_word();
 }
 
-#[tactic(auto, using(crate::proofs::RangeLaws::port_range, crate::proofs::StateLaws::number_back), unfolding(crate::specs::Records::port_written))]
+#[inline(always)]
+#[tactic(auto, using(crate::proofs::RangeLaws::port_range), unfolding(crate::specs::Records::port_written))]
 pub fn write_port(links: &mut [u32], port: Port, settings: CheckedPort)
     requires { fixed_words ≤ length links.old }
     ensures { links.new ≡ port_written links.old port.number (port_is settings.settings) }
 {
-    let state = PortState::from(settings.settings.state);
+    let state = settings.settings.state;
     links[STATES] = with_state(links[STATES], port, state);
     write_words(links, port, settings);
 }

@@ -1,18 +1,24 @@
 // The five ports' states in one word of three masks.
 ghost use Rattle.std.specs.Prelude.{◌≡◌, true, false, MatchResult};
 ghost use Rattle.rules.specs.Arguments.{state_of};
-ghost use Rattle.settings.specs.States.{is_states_word, state_in, with_state, number_of, bar_of};
+ghost use Rattle.settings.specs.States.{is_states_word, state_in, with_state, bar_of};
 
 use layout::bits::{bit, with_bit};
 use layout::damage::Damaged;
 use layout::ports::Port;
 use rules::reasons::Reason;
-use rules::states::PortState;
 
 // Where the second and the third mask begin.
 const SECOND: u32 = 8;
 
 const THIRD: u32 = 16;
+
+// States by their numbers.
+const DISABLED: u32 = 0;
+
+const LISTENING: u32 = 2;
+
+const FORWARDING: u32 = 4;
 
 // All Disabled.
 pub const FRESH_STATES: u32 = 31;
@@ -62,13 +68,14 @@ impl StatesWord {
     }
 }
 
-#[tactic(auto, unfolding(crate::specs::States::with_state, crate::specs::States::opens, crate::specs::States::number_of))]
-pub fn with_state(word: u32, port: Port, state: PortState) -> u32
-    ensures { result ≡ with_state word port.number (number_of state) }
+// A state by its number, as a call gives it; every number is taken.
+#[inline(always)]
+#[tactic(auto, unfolding(crate::specs::States::with_state, crate::specs::States::opens))]
+pub fn with_state(word: u32, port: Port, state: u32) -> u32
+    ensures { result ≡ with_state word port.number state }
 {
-    let opens = matches!(state, PortState::Disabled | PortState::Forwarding);
-    let learns = matches!(state, PortState::Learning | PortState::Forwarding);
+    let opens = (state == DISABLED) | (state == FORWARDING);
     let one = with_bit(word, port.number, opens);
-    let two = with_bit(one, SECOND + port.number, state == PortState::Listening);
-    with_bit(two, THIRD + port.number, learns)
+    let two = with_bit(one, SECOND + port.number, state == LISTENING);
+    with_bit(two, THIRD + port.number, LISTENING < state)
 }

@@ -33,6 +33,7 @@ pub fn find_vlan(links: &[u32], vid: u32) -> Result<Option<usize>, Damaged>
 }
 
 // "A new VID takes the next entry."
+#[inline(always)]
 #[tactic(auto, unfolding(crate::specs::Table::added_vlan))]
 pub fn add_vlan(links: &mut [u32], vlan: CheckedVlan)
     requires { (fixed_words ≤ length links.old) × (get_or links.old vlan_count_word 0 < 16) }

@@ -8,6 +8,7 @@ ghost use Rattle.settings.specs.Records.{vlan_words};
 use crate::vlan::CheckedVlan;
 use layout::{VLAN, VLAN_OPERATION, VLAN_STRIDE};
 
+#[inline(always)]
 pub fn write_vlan(links: &mut [u32], entry: usize, vlan: CheckedVlan)
     requires { (entry < 16) × (fixed_words ≤ length links.old) }
     ensures { links.new ≡ sets links.old (vlan_word entry) (vlan_words (vlan_is vlan.settings)) }

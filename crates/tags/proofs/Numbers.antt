@@ -7,7 +7,7 @@ use Rattle.rules.specs.Tags.{Bytes, two_bytes_at, tag_at, address_at}
 use Rattle.tags.specs.Numbers.{tag_is}
 use Rattle.tags.specs.Reading.{four_bytes_at, eight_bytes_at}
 
-two_below : (bytes : List ℕ) (i : ℕ) → Bytes bytes → two_bytes_at bytes i < 65536
+pub two_below : (bytes : List ℕ) (i : ℕ) → Bytes bytes → two_bytes_at bytes i < 65536
 unfolding two_bytes_at
 two_below bytes i each = omega (arith, each i, each (i + 1))
 
@@ -21,7 +21,7 @@ tag_of_four bytes i each =
     let header : four_bytes_at bytes i % 65536 ≡ two_bytes_at bytes (i + 2) = omega (arith, two_below bytes (i + 2) each) in
     rw (type_of_four bytes i each, header)
 
-address_of_six : (bytes : List ℕ) (i : ℕ) → two_bytes_at bytes i * 4294967296 + four_bytes_at bytes (i + 2) ≡ address_at bytes i
+pub address_of_six : (bytes : List ℕ) (i : ℕ) → two_bytes_at bytes i * 4294967296 + four_bytes_at bytes (i + 2) ≡ address_at bytes i
 unfolding two_bytes_at four_bytes_at address_at
 address_of_six bytes i =
     let three : i + 2 + 1 ≡ i + 3 = omega arith in

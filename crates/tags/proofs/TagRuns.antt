@@ -24,7 +24,7 @@ first_byte m =
     whole q = omega arith
 
 -- the four bytes of a tag are those of its number
-tag_bytes_law : (n : ℕ) → tag_bytes (tag_is n) ≡ n / 16777216 ∷ n / 65536 % 256 ∷ n / 256 % 256 ∷ n % 256 ∷ []
+pub tag_bytes_law : (n : ℕ) → tag_bytes (tag_is n) ≡ n / 16777216 ∷ n / 65536 % 256 ∷ n / 256 % 256 ∷ n % 256 ∷ []
 unfolding tag_bytes tag_is header_bytes header_of
 tag_bytes_law n =
     let a : n / 65536 / 256 ≡ n / 16777216 = omega arith in

@@ -14,7 +14,7 @@ use Rattle.departure.specs.Leaving.{departed, left}
 use Rattle.take_out.specs.Frames.{frame_of, leaving_of, leaving_from, written, can_send}
 use Rattle.take_out.specs.Take.{leaving_at, sent_from, taken_frame, taken_or_damaged}
 
-leaving_at_law : (n : ℕ) (cells l : List ℕ) (port queue c : ℕ) → port < 5 → leaving_from n cells l port c ≡ leaving_at n cells l port queue c
+pub leaving_at_law : (n : ℕ) (cells l : List ℕ) (port queue c : ℕ) → port < 5 → leaving_from n cells l port c ≡ leaving_at n cells l port queue c
 unfolding leaving_at leaving_bytes leaving_stack leaving_of frame_of settings_of Settings.ports_of port_of
 leaving_at_law n cells l port queue c h = rw (lt-ltb port 5 h)
 

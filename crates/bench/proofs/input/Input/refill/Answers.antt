@@ -19,7 +19,7 @@ returns g c =
     let s = c.args.self.now in
     let n = c.in_ok-n.n in
     let seen = rw c.waiting.ensures at c.is_bytes.ensures in
-    let room : s.end - s.at < 131072 = omega (arith, more_has_room _ _ seen c.requires, left_length s.buffer s.at s.end s.from (omega arith)) in
+    let room : s.end - s.at < 65537 = omega (arith, more_has_room _ _ seen c.requires, left_length s.buffer s.at s.end s.from (omega arith)) in
     let read = rw (← c.in_ok-n.ensures) at c.receive-received.ensures.bytes in
     let fits = rw (← c.in_ok-n.ensures) at c.receive-received.ensures.fits in
     refilled s _ c.requires _ _ c.receive-received.new.input c.is_bytes-2.ensures (omega arith) n fits.0 (come s.buffer s.at s.end s.from (omega arith) _ c.copy_within.ensures.after _ c.receive-received.new.input n fits.0) refl read

@@ -1,10 +1,10 @@
--- `addresses::searches::whole_search` meets its contract. The invariant: the look-up is the search of the places that
+-- `addresses::searches::search_places` meets its contract. The invariant: the look-up is the search of the places that
 -- are left.
 use Rattle.std.proofs.Common.{◌≡◌, ◌-◌, ◌≤◌, drop}
 use Rattle.rules.specs.Addresses.{places}
 use Rattle.addresses.specs.Search.{look_up}
 use Rattle.addresses.proofs.Search.{seek}
-use Rattle.addresses.proofs.searches.whole_search.Given as goal
+use Rattle.addresses.proofs.searches.search_places.Given as goal
 
 abbrev pub invariant-search : goal.invariant-search
 invariant-search l =
