@@ -38,7 +38,7 @@ impl Run {
         }
     }
 
-    // On a fresh switch. It is made where the run stands: a run that is handed out behind that would be copied.
+    // The switch is made fresh where the run stands: a run that is handed out after that would be copied.
     pub fn start(&mut self)
         requires { IsUnread self.old }
         ensures { IsNew self.new }

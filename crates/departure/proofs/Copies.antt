@@ -45,14 +45,14 @@ module _ (port c : ℕ) (l : List ℕ) (known : port < 5) (waits : bit (ports_of
   stands : 2 ^ port ≤ word_of l c % 32
   stands = bit_le port (word_of l c) known waits
 
-  left_size : (word_of l c - 2 ^ port) / 32 ≡ size_of l c
+  pub left_size : (word_of l c - 2 ^ port) / 32 ≡ size_of l c
   left_size = omega (arith, stands)
 
-  none_left : (word_of l c - 2 ^ port) % 32 ≡ 0 → is_last port c l ≡ true
+  pub none_left : (word_of l c - 2 ^ port) % 32 ≡ 0 → is_last port c l ≡ true
   unfolding is_last
   none_left e = eq-eqb (ports_of l c) (2 ^ port) (omega (arith, stands))
 
-  some_left : ((word_of l c - 2 ^ port) % 32 ≡ 0 → ⊥) → is_last port c l ≡ false
+  pub some_left : ((word_of l c - 2 ^ port) % 32 ≡ 0 → ⊥) → is_last port c l ≡ false
   unfolding is_last
   some_left e = ne_eqb (ports_of l c) (2 ^ port) (λ f. e (omega arith))
 

@@ -20,7 +20,7 @@ use layout::{CELL_SIZE, STORED_HEADER};
 use rules::operations::Kind;
 use settings::operation::{OperationWord, is_exempt};
 use settings::port::default_tag;
-use tags::leaving::{Operation, Origin};
+use tags::leaving::{Operation, Origin, TagOperation, leaving_tags};
 use tags::stack::Stack;
 
 // The operation of a word: a port's, or a VLAN's that was stored with a frame. Its kind comes last, right before it is
@@ -39,19 +39,21 @@ fn operation_of(operation: OperationWord) -> Operation
     }
 }
 
-// The operation of a word on a stack. None is told first: then no other part of the word is read.
-#[inline(always)]
-#[tactic(auto, using(crate::proofs::Headers::idle))]
-fn operated(origin: Origin, word: OperationWord, stack: Stack) -> Stack
-    requires { stack.count ≤ 3 }
-    ensures { (stack_is result
-        ≡ operate (origin_is origin.tags origin.default) (operation_of (operation_in word.word)) (stack_is stack))
-        × (result.count ≤ stack.count + 1) }
-{
-    if word.kind() == Kind::Nothing {
-        return stack;
+// An operation by its word. None is told first: then no other part of the word is read.
+#[derive(Clone, Copy)]
+struct ByWord(OperationWord);
+
+impl TagOperation for ByWord {
+    ghost meaning = { λ by_word. operation_of (operation_in by_word.0.word) };
+
+    #[inline(always)]
+    #[tactic(auto, using(crate::proofs::Headers::idle))]
+    fn act(self, origin: Origin, stack: Stack) -> Stack {
+        if self.0.kind() == Kind::Nothing {
+            return stack;
+        }
+        origin.operate(operation_of(self.0), stack)
     }
-    origin.operate(operation_of(word), stack)
 }
 
 // "A result under 60 bytes is filled with zeros to 60." Answers the length then.
@@ -112,14 +114,10 @@ impl<'a> Departing<'a> {
         if is_exempt(self.vlan) {
             return tags;
         }
-        let vlan = OperationWord { word: self.vlan };
-        let own = OperationWord { word: self.own };
+        let vlan = ByWord(OperationWord { word: self.vlan });
+        let own = ByWord(OperationWord { word: self.own });
         let header = StoredHeader::read(self.cells, self.n.number, self.c);
-        let origin = Origin {
-            tags,
-            default: default_tag(header.default),
-        };
-        operated(origin, own, operated(origin, vlan, tags))
+        leaving_tags(default_tag(header.default), tags, vlan, own)
     }
 
     // The frame's addresses, at the front of out.

@@ -6,9 +6,10 @@ ghost use Rattle.settings.specs.Ports.{port_is};
 ghost use Rattle.settings.specs.Records.{port_words, port_written};
 
 use crate::port::CheckedPort;
-use crate::states::with_state;
+use crate::states::with_port_state;
 use layout::ports::Port;
 use layout::{PORT, PORT_OPERATION, PORT_STRIDE, STATES};
+use rules::states::PortState;
 
 // All but the state.
 #[inline(always)]
@@ -21,12 +22,12 @@ pub fn write_words(links: &mut [u32], port: Port, settings: CheckedPort)
 }
 
 #[inline(always)]
-#[tactic(auto, using(crate::proofs::RangeLaws::port_range), unfolding(crate::specs::Records::port_written))]
+#[tactic(auto, using(crate::proofs::RangeLaws::port_range, crate::proofs::StateLaws::number_back), unfolding(crate::specs::Records::port_written))]
 pub fn write_port(links: &mut [u32], port: Port, settings: CheckedPort)
     requires { fixed_words ≤ length links.old }
     ensures { links.new ≡ port_written links.old port.number (port_is settings.settings) }
 {
-    let state = settings.settings.state;
-    links[STATES] = with_state(links[STATES], port, state);
+    let state = PortState::from(settings.settings.state);
+    links[STATES] = with_port_state(links[STATES], port, state);
     write_words(links, port, settings);
 }

@@ -1,12 +1,13 @@
 // The five ports' states in one word of three masks.
 ghost use Rattle.std.specs.Prelude.{◌≡◌, true, false, MatchResult};
 ghost use Rattle.rules.specs.Arguments.{state_of};
-ghost use Rattle.settings.specs.States.{is_states_word, state_in, with_state, bar_of};
+ghost use Rattle.settings.specs.States.{is_states_word, state_in, with_state, number_of, bar_of};
 
 use layout::bits::{bit, with_bit};
 use layout::damage::Damaged;
 use layout::ports::Port;
 use rules::reasons::Reason;
+use rules::states::PortState;
 
 // Where the second and the third mask begin.
 const SECOND: u32 = 8;
@@ -78,4 +79,13 @@ pub fn with_state(word: u32, port: Port, state: u32) -> u32
     let one = with_bit(word, port.number, opens);
     let two = with_bit(one, SECOND + port.number, state == LISTENING);
     with_bit(two, THIRD + port.number, LISTENING < state)
+}
+
+// The state as the rules name it.
+#[inline(always)]
+#[tactic(auto, unfolding(crate::specs::States::number_of))]
+pub fn with_port_state(word: u32, port: Port, state: PortState) -> u32
+    ensures { result ≡ with_state word port.number (number_of state) }
+{
+    with_state(word, port, state as u32)
 }

@@ -1,7 +1,7 @@
 // The tags with which a frame leaves: the five operations, and where the fields of a new tag come from.
 ghost use Rattle.std.specs.Prelude.{◌≡◌, ◌+◌, ◌≤◌, ◌<◌};
 ghost use Rattle.rules.specs.Tags.{header_of};
-ghost use Rattle.rules.specs.Operations.{from, new_tag, operate, leaving_tags};
+ghost use Rattle.rules.specs.Operations.{from, new_tag, operate, leaving_tags, Operation as Meaning};
 ghost use Rattle.rules.specs.Arguments.{type_of};
 ghost use Rattle.tags.specs.Numbers.{tag_is, joined_tag, stack_is, origin_is};
 ghost use Rattle.tags.specs.Operations.{operation_is};
@@ -88,14 +88,39 @@ impl Origin {
     }
 }
 
+// An operation in the form in which a caller holds it: by value, or as a word of its memory.
+pub trait TagOperation {
+    // The rules' operation that it stands for.
+    ghost meaning: { Self → Meaning };
+
+    fn act(self, origin: Origin, stack: Stack) -> Stack
+        requires { stack.count ≤ 3 }
+        ensures { (stack_is result ≡ operate (origin_is origin.tags origin.default) (meaning self) (stack_is stack))
+            × (result.count ≤ stack.count + 1) };
+}
+
+impl TagOperation for Operation {
+    ghost meaning = { operation_is };
+
+    #[inline(always)]
+    fn act(self, origin: Origin, stack: Stack) -> Stack {
+        origin.operate(self, stack)
+    }
+}
+
 // "VLAN operation first, departing port's second."
 #[inline(always)]
 #[tactic(auto, unfolding(rules::specs::Operations::leaving_tags, crate::specs::Numbers::origin_is))]
-pub fn leaving_tags(default: u16, tags: Stack, vlan: Operation, port: Operation) -> Stack
+pub fn leaving_tags<V: TagOperation, P: TagOperation>(
+    default: u16,
+    tags: Stack,
+    vlan: V,
+    port: P,
+) -> Stack
     requires { tags.count ≤ 2 }
-    ensures { stack_is result ≡ leaving_tags (origin_is tags default) (operation_is vlan) (operation_is port) }
+    ensures { stack_is result ≡ leaving_tags (origin_is tags default) (V.meaning vlan) (P.meaning port) }
 {
     let origin = Origin { tags, default };
-    let once = origin.operate(vlan, tags);
-    origin.operate(port, once)
+    let once = vlan.act(origin, tags);
+    port.act(origin, once)
 }
